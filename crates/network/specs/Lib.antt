@@ -1,3 +1,4 @@
 pub mod Levels
+pub mod Network
 pub mod Refusals
 pub mod Rows

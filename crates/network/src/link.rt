@@ -34,7 +34,11 @@ impl Link {
         if row.ns == 0 {
             return Err(RowRefusal::NoDelay(row));
         }
-        Ok(Link { from: row.from, to: row.to, ns: row.ns })
+        Ok(Link {
+            from: row.from,
+            to: row.to,
+            ns: row.ns,
+        })
     }
 
     /// One end.

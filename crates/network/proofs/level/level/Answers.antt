@@ -19,5 +19,5 @@ pub returns : need.returns
 returns c =
     record {
       delay = λ h. of-digits (c .args .ns) h (omega arith);
-      nothing = λ e. rw (e, leading-of-zero)
+      nothing = λ e. rw (e, leading-of-zero);
     }
