@@ -1,0 +1,7 @@
+use native.Mathlib.Omega.{arith}
+use mathlib.Core.Path.{refl}
+use Rattle.text.proofs.Numerals.{empty}
+use Rattle.text.proofs.line.line_of.Needs as need
+
+pub returns-then-bytes-eq0 : need.returns-then-bytes-eq0
+returns-then-bytes-eq0 c = (refl, refl, refl, empty (c .args .bytes .now) (omega arith))

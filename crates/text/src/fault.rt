@@ -1,0 +1,8 @@
+/// What can be wrong with one word.
+#[derive(Clone, Copy)]
+pub enum WordFault {
+    Empty,
+    NotANumber,
+    TooLarge,
+    BadState,
+}
