@@ -1,3 +1,4 @@
 pub mod Digits
+pub mod Naming
 pub mod Numerals
 pub mod Pieces
