@@ -137,12 +137,20 @@ words-at-other line i l n =
     rw (cut, t) (onto-length (getD line i 0) (words (drop (i + 1) line)) (words-some (drop (i + 1) line)))
 
 pub line-first : (text : List ℕ) → LineAt text 0 0
-line-first text = record { within = omega arith; few = omega arith; left = refl }
+line-first text = record { within = omega arith; few = omega arith; listed = omega arith; left = refl }
 
 -- the text ends where no byte is left
 pub line-none : {text : List ℕ} {i start : ℕ} → LineAt text i start → length text ≤ start → length (lines text) ≤ i
 line-none {text} {i} {start} at h =
     omega (arith, length-drop i (lines text), ap length (sym (at .left) ∙ ap lines (drop-all start text h)))
+
+-- and goes on where a line is left
+pub line-some : {text : List ℕ} {i start : ℕ} → LineAt text i start → i < length (lines text) → start < length text
+line-some {text} {i} {start} at h = go (decLt start (length text))
+  where
+    go : Dec (start < length text) → start < length text
+    go (yes l) = l
+    go (no n) = let z : ⊥ = omega (arith, line-none at (omega arith)) in absurd z
 
 -- the line i, which begins at `start` and ends at e
 module _ {text : List ℕ} {i start e : ℕ} (at : LineAt text i start) (ends : Ends line-feed text start e) (some : start < length text) where
@@ -173,4 +181,27 @@ module _ {text : List ℕ} {i start e : ℕ} (at : LineAt text i start) (ends : 
   line-is = first .here []
 
   pub line-next : LineAt text (i + 1) (min (e + 1) (length text))
-  line-next = record { within = omega arith; few = omega (arith, at .few, ends .low); left = sym (first .after) }
+  line-next = record { within = omega arith; few = omega (arith, at .few, ends .low); listed = omega (arith, first .below); left = sym (first .after) }
+
+-- no line is longer than its text
+pub line-short : (text : List ℕ) (i : ℕ) → length (getD (lines text) i []) ≤ length text
+line-short [] i = omega arith
+line-short (b ∷ bs) i = go (eqb b line-feed) (lines bs) i (λ k. line-short bs k)
+  where
+    go : (t : Bool) (ls : List (List ℕ)) (i : ℕ) → ((k : ℕ) → length (getD ls k []) ≤ length bs) → length (getD (cond t ([] ∷ ls) (onto b ls)) i []) ≤ suc (length bs)
+    go true ls zero h = omega arith
+    go true ls (suc i) h = omega (arith, h i)
+    go false [] zero h = omega arith
+    go false [] (suc i) h = omega arith
+    go false (l ∷ ls) zero h = omega (arith, h zero)
+    go false (l ∷ ls) (suc i) h = omega (arith, h (suc i))
+
+-- a text has no more lines than bytes
+pub lines-few : (text : List ℕ) → length (lines text) ≤ length text
+lines-few [] = omega arith
+lines-few (b ∷ bs) = go (eqb b line-feed) (lines bs) (lines-few bs)
+  where
+    go : (t : Bool) (ls : List (List ℕ)) → length ls ≤ length bs → length (cond t ([] ∷ ls) (onto b ls)) ≤ suc (length bs)
+    go true ls h = omega arith
+    go false [] h = omega arith
+    go false (l ∷ ls) h = omega arith

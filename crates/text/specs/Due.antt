@@ -3,7 +3,8 @@ use mathlib.Core.Path.{_≡_}
 use mathlib.Core.List.{List, []}
 use Prim.Native.Nat.{ℕ, _+_, _≤_, _<_}
 use lib.ListN.{length, getD}
-use Rattle.text.specs.Split.{lines}
+use Rattle.text.specs.Split.{lines, LineAt}
+use Rattle.text.specs.declared.line.Cursor.{Cursor}
 use Rattle.text.specs.declared.fault.Fault.{Fault}
 use Rattle.text.specs.declared.fault.Cause.{Cause}
 use Rattle.text.specs.declared.fault.Cause.the-variants.{InTable}
@@ -18,10 +19,20 @@ pub record Stands (text : List ℕ) (i : ℕ) : Type 0 where
   pub listed : i < length (lines text)
   pub some : 0 < length (line text i)
 
+-- the line i is there, and is empty
+pub record Empty (text : List ℕ) (i : ℕ) : Type 0 where
+  pub listed : i < length (lines text)
+  pub nothing : line text i ≡ []
+
+-- the cursor lies one line further
+pub record Moved (text : List ℕ) (was now : Cursor) : Type 0 where
+  pub line : now .line ≡ was .line + 1
+  pub at : LineAt text (now .line) (now .start)
+
 -- the fault of the line i where a line is due that is not empty: the text ends, or the line is empty, or it is wrong
 pub data DueFault (text : List ℕ) (i : ℕ) (wrong : List ℕ → Cause → ℕ → Type 0) (cause : Cause) (column : ℕ) : Type 0 where
   missing : length (lines text) ≤ i → cause ≡ InTable LineDue → column ≡ 1 → DueFault text i wrong cause column
-  empty : i < length (lines text) → line text i ≡ [] → cause ≡ InTable LineDue → column ≡ 1 → DueFault text i wrong cause column
+  empty : Empty text i → cause ≡ InTable LineDue → column ≡ 1 → DueFault text i wrong cause column
   faulty : Stands text i → wrong (line text i) cause column → DueFault text i wrong cause column
 
 -- the fault of the line i where an empty one is due: the text ends, or there is a line too many before it

@@ -4,6 +4,9 @@ pub mod Due
 pub mod Faults
 pub mod Lines
 pub mod Numbers
+pub mod Opening
+pub mod Read
+pub mod Sheet
 pub mod Split
 pub mod States
 pub mod Stored

@@ -61,4 +61,5 @@ pub record WordAt (line : List ℕ) (j start : ℕ) : Type 0 where
 pub record LineAt (text : List ℕ) (i start : ℕ) : Type 0 where
   pub within : start ≤ length text
   pub few : i ≤ start
+  pub listed : i ≤ length (lines text)
   pub left : lines (drop start text) ≡ drop i (lines text)
