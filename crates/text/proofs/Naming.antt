@@ -102,7 +102,7 @@ seen-none t ws =
       came = λ i h l. absurd (far i (omega (arith, width-most t)) l);
       absent = λ i h n k l. let z : ⊥ = omega arith in absurd z;
       good = λ k l. let z : ⊥ = omega arith in absurd z;
-      many = none t
+      many = none t;
     }
   where
     far : (i : ℕ) → i < 4 → getD (4 ∷ 4 ∷ 4 ∷ 4 ∷ []) i 0 < 4 → ⊥
@@ -111,6 +111,7 @@ seen-none t ws =
     far (suc (suc zero)) h l = omega arith
     far (suc (suc (suc zero))) h l = omega arith
     far (suc (suc (suc (suc i)))) h l = omega arith
+
     none : (t : Table) → known (4 ∷ 4 ∷ 4 ∷ 4 ∷ []) (width t) ≡ 0
     none Book = refl
     none Links = refl
@@ -136,7 +137,7 @@ module _ {t : Table} {ws : List (List ℕ)} {j i : ℕ} {places : List ℕ} (see
         came = λ k h b. place k h b (ℕ-discrete k i) same;
         absent = λ k h f m d e. gone k h f m d e (ℕ-discrete k i) (ℕ-discrete m j) same short;
         good = λ k d. fine k d (ℕ-discrete k j) n;
-        many = known-more places (width t) i j inside column (omega arith) n ∙ (ap suc (seen .many) ∙ omega arith)
+        many = known-more places (width t) i j inside column (omega arith) n ∙ (ap suc (seen .many) ∙ omega arith);
       }
     where
       place : (k : ℕ) → k < width t → getD (set places i j) k 0 < 4 → Dec (k ≡ i) → getD (set places i j) i 0 ≡ j
@@ -146,11 +147,13 @@ module _ {t : Table} {ws : List (List ℕ)} {j i : ℕ} {places : List ℕ} (see
           let other = getD-set-other places i k j 0 q in
           let old = seen .came k h (rw other at b) in
           rw other (omega (arith, old .0), old .1)
+
       gone : (k : ℕ) → k < width t → (getD (set places i j) k 0 < 4 → ⊥) → (m : ℕ) → m < j + 1 → getD ws m [] ≡ getD (names t) k [] → Dec (k ≡ i) → Dec (m ≡ j)
           → getD (set places i j) i 0 ≡ j → width t ≤ 4 → ⊥
       gone k h f m d e (yes q) r same short = f (subst (λ (x : ℕ). getD (set places i j) x 0 < 4) (sym q) (omega arith))
       gone k h f m d e (no q) (yes r) same short = q (one-name t k i h column (sym e ∙ (ap (λ (x : ℕ). getD ws x []) r ∙ sym named)))
       gone k h f m d e (no q) (no r) same short = seen .absent k h (rw (getD-set-other places i k j 0 q) at f) m (omega arith) e
+
       fine : (k : ℕ) → k < j + 1 → Dec (k ≡ j) → (getD places i 0 < 4 → ⊥) → NewName t ws k
       fine k d (yes q) n = subst (λ (x : ℕ). NewName t ws x) (sym q) (seen-new n)
       fine k d (no q) n = seen .good k (omega arith)

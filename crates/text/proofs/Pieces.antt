@@ -77,8 +77,8 @@ module _ {line : List ℕ} {j start e : ℕ} (at : WordAt line j start) (ends : 
   then : e < length line → First (List ℕ) (words line) j (between start e line) (words (drop (e + 1) line))
   then h =
       let split : words (drop start line) ≡ between start e line ∷ words (drop (e + 1) line)
-            = ap words (at-stop separator line start e (ends .low) h (ends .there h))
-              ∙ pieces-cut separator ([] ∷ []) (between start e line) (drop (e + 1) line) (ends .free)
+      = ap words (at-stop separator line start e (ends .low) h (ends .there h))
+      ∙ pieces-cut separator ([] ∷ []) (between start e line) (drop (e + 1) line) (ends .free)
       in first-of (words line) j (between start e line) (words (drop (e + 1) line)) (sym (at .left) ∙ split)
 
   -- it is the last word
@@ -86,7 +86,7 @@ module _ {line : List ℕ} {j start e : ℕ} (at : WordAt line j start) (ends : 
   alone n =
       let h : e ≡ length line = omega (arith, ends .high) in
       let split : words (drop start line) ≡ between start e line ∷ []
-            = ap words (at-end line start e (ends .low) h) ∙ words-last (between start e line) (ends .free)
+      = ap words (at-end line start e (ends .low) h) ∙ words-last (between start e line) (ends .free)
       in first-of (words line) j (between start e line) [] (sym (at .left) ∙ split)
 
   pub word-is : getD (words line) j [] ≡ between start e line
@@ -105,7 +105,7 @@ module _ {line : List ℕ} {j start e : ℕ} (at : WordAt line j start) (ends : 
       record {
         within = omega arith;
         left = sym (then l .after);
-        column = omega (arith, at .column, column-next (words line) j (omega arith), ap length word-is, length-between line start e (ends .high), ends .low)
+        column = omega (arith, at .column, column-next (words line) j (omega arith), ap length word-is, length-between line start e (ends .high), ends .low);
       }
 
 pub word-first : (line : List ℕ) → WordAt line 0 0

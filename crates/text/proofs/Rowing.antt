@@ -19,7 +19,7 @@ no-rows text places memory =
       rows = record { stands = λ k h. let z : ⊥ = omega arith in absurd z; spelled = λ k h. let z : ⊥ = omega arith in absurd z };
       few = omega arith;
       same = refl;
-      kept = λ k h. refl
+      kept = λ k h. refl;
     }
 
 module _ {text places : List ℕ} {was now : List SheetLink} {n : ℕ} (read : RowsRead text places was now n) (link : SheetLink) (space : n < room was) where
@@ -32,17 +32,18 @@ module _ {text places : List ℕ} {was now : List SheetLink} {n : ℕ} (read : R
         rows = record { stands = λ k h. standing k h (ℕ-discrete k n); spelled = λ k h. spelling k h (ℕ-discrete k n) };
         few = omega arith;
         same = length-set now n link ∙ read .same;
-        kept = λ k h. getD-set-other now n k link no-link (omega arith) ∙ read .kept k (omega arith)
+        kept = λ k h. getD-set-other now n k link no-link (omega arith) ∙ read .kept k (omega arith);
       }
     where
       standing : (k : ℕ) → k < n + 1 → Dec (k ≡ n) → Stands text (4 + k)
       standing k h (yes e) = subst (λ (i : ℕ). Stands text (4 + i)) (sym e) stands
       standing k h (no d) = read .rows .stands k (omega arith)
+
       spelling : (k : ℕ) → k < n + 1 → Dec (k ≡ n) → SpelledLink places (words (line text (4 + k))) (getD (set now n link) k no-link)
       spelling k h (yes e) =
           let here = getD-set-same now n link no-link inside in
           subst (λ (i : ℕ). SpelledLink places (words (line text (4 + i))) (getD (set now n link) i no-link)) (sym e)
-            (subst (λ (l : SheetLink). SpelledLink places (words (line text (4 + n))) l) (sym here) spelled)
+          (subst (λ (l : SheetLink). SpelledLink places (words (line text (4 + n))) l) (sym here) spelled)
       spelling k h (no d) =
           subst (λ (l : SheetLink). SpelledLink places (words (line text (4 + k))) l) (sym (getD-set-other now n k link no-link d)) (read .rows .spelled k (omega arith))
 

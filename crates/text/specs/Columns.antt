@@ -20,7 +20,7 @@ pub data Miscounted (columns : ℕ) (line : List ℕ) (cause : Cause) (column : 
 pub data Faulty (columns : ℕ) (line : List ℕ) (good : ℕ → Type 0) (bad : ℕ → Cause → Type 0) (cause : Cause) (column : ℕ) : Type 0 where
   count : Miscounted columns line cause column → Faulty columns line good bad cause column
   word : (j : ℕ) → length (words line) ≡ columns → j < columns → ((i : ℕ) → i < j → good i) → bad j cause → column ≡ column-of (words line) j
-    → Faulty columns line good bad cause column
+      → Faulty columns line good bad cause column
 
 -- the words are the names of the table's columns, in some order: the name i is the word `places i`
 pub record Ordered (t : Table) (ws : List (List ℕ)) (places : List ℕ) : Type 0 where

@@ -34,9 +34,9 @@ pub data SheetFault (text : List ℕ) (limit : ℕ) (links : List SheetLink) (n 
   too-long : longest < length text → n ≡ 0 → f .cause ≡ TextTooLong → f .line ≡ 0 → f .column ≡ 0 → SheetFault text limit links n f
   heading : length text ≤ longest → n ≡ 0 → HeadingFault text f → SheetFault text limit links n f
   row : length text ≤ longest → (book-places places : List ℕ) (head : Head) → Headed text book-places places head → Rows text places links n
-    → AtLine (4 + n) f (RowFault text places (limit ≤ n) (4 + n)) → SheetFault text limit links n f
+      → AtLine (4 + n) f (RowFault text places (limit ≤ n) (4 + n)) → SheetFault text limit links n f
   book : (book-places places : List ℕ) (head : Head) → Spelled text book-places places head links n
-    → BookRefused text book-places places (head .stations) links n f → SheetFault text limit links n f
+      → BookRefused text book-places places (head .stations) links n f → SheetFault text limit links n f
 
 -- the answer to a text, and the memory before and after: the links that were read stand at its start, and the rest of it stays
 pub record ReadAs (text : List ℕ) (was now : List SheetLink) (r : Reading) : Type 0 where

@@ -31,8 +31,16 @@ fn due_line<'a>(text: &'a [u8], cursor: &mut Cursor, role: Role) -> Result<&'a [
     match next_line(text, cursor, role) {
         Some(Line::Names { bytes, .. }) => Ok(bytes),
         Some(Line::Values { bytes, .. }) => Ok(bytes),
-        Some(Line::Divider { line, column, .. }) => Err(Fault { cause: Cause::InTable(TableFault::LineDue), line, column }),
-        None => Err(Fault { cause: Cause::InTable(TableFault::LineDue), line: last + 1, column: 1 }),
+        Some(Line::Divider { line, column, .. }) => Err(Fault {
+            cause: Cause::InTable(TableFault::LineDue),
+            line,
+            column,
+        }),
+        None => Err(Fault {
+            cause: Cause::InTable(TableFault::LineDue),
+            line: last + 1,
+            column: 1,
+        }),
     }
 }
 
@@ -47,7 +55,12 @@ pub(crate) fn names_line(text: &[u8], cursor: &mut Cursor, table: Table) -> Resu
 }
 
 /// Reads the next line as values.
-pub(crate) fn values_line(text: &[u8], cursor: &mut Cursor, columns: usize, state_at: usize) -> Result<Values, Fault>
+pub(crate) fn values_line(
+    text: &[u8],
+    cursor: &mut Cursor,
+    columns: usize,
+    state_at: usize,
+) -> Result<Values, Fault>
     requires short { ⌜ length (now text) ≤ 65536 ⌝ }
     requires at { ⌜ LineAt (now text) (now cursor .line) (now cursor .start) ⌝ }
     requires few { ⌜ columns ≤ 4 ⌝ }
@@ -66,8 +79,20 @@ pub(crate) fn divider_line(text: &[u8], cursor: &mut Cursor) -> Result<(), Fault
     let last = cursor.line;
     match next_line(text, cursor, Role::AsValues) {
         Some(Line::Divider { .. }) => Ok(()),
-        Some(Line::Names { line, column, .. }) => Err(Fault { cause: Cause::InTable(TableFault::TooManyLines), line, column }),
-        Some(Line::Values { line, column, .. }) => Err(Fault { cause: Cause::InTable(TableFault::TooManyLines), line, column }),
-        None => Err(Fault { cause: Cause::InTable(TableFault::LineDue), line: last + 1, column: 1 }),
+        Some(Line::Names { line, column, .. }) => Err(Fault {
+            cause: Cause::InTable(TableFault::TooManyLines),
+            line,
+            column,
+        }),
+        Some(Line::Values { line, column, .. }) => Err(Fault {
+            cause: Cause::InTable(TableFault::TooManyLines),
+            line,
+            column,
+        }),
+        None => Err(Fault {
+            cause: Cause::InTable(TableFault::LineDue),
+            line: last + 1,
+            column: 1,
+        }),
     }
 }

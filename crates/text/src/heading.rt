@@ -13,16 +13,26 @@ use super::fault::Fault;
 use super::line::Cursor;
 use super::names::Places;
 use super::sheet::Head;
-use super::sheet::Heading;
 use super::table::Table;
 use super::values::Values;
+
+/// The head of a sheet, and where the names of its two tables stand.
+#[derive(Clone, Copy)]
+pub(crate) struct Heading {
+    pub(crate) head: Head,
+    pub(crate) book_places: Places,
+    pub(crate) link_places: Places,
+}
 
 /// The head that the values of the first table spell, under names with these places.
 fn head_of(values: Values, places: Places) -> Head
     requires { ⌜ (getD places 0 0 < 4) × (getD places 1 0 < 4) ⌝ }
     ensures { λ r. ⌜ (r .book ≡ getD (values .numbers) (getD places 0 0) 0) × (r .stations ≡ getD (values .numbers) (getD places 1 0) 0) ⌝ }
 {
-    Head { book: values.numbers[places[0]], stations: values.numbers[places[1]] }
+    Head {
+        book: values.numbers[places[0]],
+        stations: values.numbers[places[1]],
+    }
 }
 
 /// Reads the first table, and gives also the places of its names.
@@ -47,5 +57,9 @@ pub(crate) fn read_heading(text: &[u8], cursor: &mut Cursor) -> Result<Heading, 
     let (head, book_places) = read_book(text, cursor)?;
     divider_line(text, cursor)?;
     let link_places = names_line(text, cursor, Table::Links)?;
-    Ok(Heading { head, book_places, link_places })
+    Ok(Heading {
+        head,
+        book_places,
+        link_places,
+    })
 }

@@ -1,18 +1,17 @@
 //! Sheets as text: bytes, words, lines and tables, read with their positions.
 
 pub mod byte;
-pub mod due;
+mod due;
 pub mod fault;
-pub mod heading;
+mod heading;
 pub mod line;
-pub mod names;
-pub mod opening;
-
+mod names;
+mod opening;
 pub mod read;
-pub mod rows;
+mod rows;
 pub mod sheet;
-pub mod split;
-pub mod table;
-pub mod values;
+mod split;
+mod table;
+mod values;
 pub mod word;
-pub mod words;
+mod words;

@@ -13,11 +13,23 @@ use super::split::piece_end;
 #[derive(Clone, Copy)]
 pub enum Line<'a> {
     /// the names of a table's columns
-    Names { bytes: &'a [u8], line: u32, column: u32 },
+    Names {
+        bytes: &'a [u8],
+        line: u32,
+        column: u32,
+    },
     /// values under those names
-    Values { bytes: &'a [u8], line: u32, column: u32 },
+    Values {
+        bytes: &'a [u8],
+        line: u32,
+        column: u32,
+    },
     /// an empty line, which stands between two tables
-    Divider { bytes: &'a [u8], line: u32, column: u32 },
+    Divider {
+        bytes: &'a [u8],
+        line: u32,
+        column: u32,
+    },
 }
 
 /// What a line that is not empty is read as: its place in the sheet decides, never its content.
@@ -39,11 +51,23 @@ fn line_of<'a>(bytes: &'a [u8], line: u32, role: Role) -> Line<'a>
     ensures { λ r. ⌜ LineIs (now (bytes .entry)) line role r ⌝ }
 {
     if bytes.len() == 0 {
-        return Line::Divider { bytes, line, column: 1 };
+        return Line::Divider {
+            bytes,
+            line,
+            column: 1,
+        };
     }
     match role {
-        Role::AsNames => Line::Names { bytes, line, column: 1 },
-        Role::AsValues => Line::Values { bytes, line, column: 1 },
+        Role::AsNames => Line::Names {
+            bytes,
+            line,
+            column: 1,
+        },
+        Role::AsValues => Line::Values {
+            bytes,
+            line,
+            column: 1,
+        },
     }
 }
 

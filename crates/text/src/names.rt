@@ -32,11 +32,19 @@ pub(crate) fn check_count(line: &[u8], number: u32, columns: usize) -> Result<()
     let count = count_words(line);
     if count < columns {
         let column = (line.len() + 1) as u32;
-        return Err(Fault { cause: Cause::InLine(LineFault::WordCount), line: number, column });
+        return Err(Fault {
+            cause: Cause::InLine(LineFault::WordCount),
+            line: number,
+            column,
+        });
     }
     if count > columns {
         let column = nth_word(line, columns).column;
-        return Err(Fault { cause: Cause::InLine(LineFault::WordCount), line: number, column });
+        return Err(Fault {
+            cause: Cause::InLine(LineFault::WordCount),
+            line: number,
+            column,
+        });
     }
     Ok(())
 }
@@ -70,7 +78,11 @@ pub(crate) fn read_names(line: &[u8], number: u32, table: Table) -> Result<Place
         let word = nth_word(line, j);
         match new_name(word.bytes, table, places) {
             Ok(i) => places[i] = j,
-            Err(cause) => return Err(Fault { cause, line: number, column: word.column }),
+            Err(cause) => return Err(Fault {
+                cause,
+                line: number,
+                column: word.column,
+            }),
         }
     }
     Ok(places)

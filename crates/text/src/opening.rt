@@ -12,8 +12,8 @@ ghost use Rattle.text.specs.Opening.{AtWord, WordAtFault, AllSound, RowRefused
 use super::fault::BookFault;
 use super::fault::Cause;
 use super::fault::Fault;
+use super::heading::Heading;
 use super::names::Places;
-use super::sheet::Heading;
 use super::sheet::SheetLink;
 use super::split::Stop;
 use super::split::piece_end;
@@ -44,7 +44,11 @@ fn fault_at_word(text: &[u8], i: usize, j: usize, cause: Cause) -> Fault
 {
     let line = nth_line(text, i);
     let column = nth_word(line, j).column;
-    Fault { cause, line: (i + 1) as u32, column }
+    Fault {
+        cause,
+        line: (i + 1) as u32,
+        column,
+    }
 }
 
 /// Which word of a refused row's line is at fault.
@@ -66,7 +70,13 @@ fn word_at_fault(refusal: RowRefusal, stations: u32, places: Places) -> usize
 }
 
 /// Checks that the first `count` links are links of a network of so many stations.
-fn check_links(text: &[u8], stations: u32, places: Places, links: &[SheetLink], count: usize) -> Result<(), Fault>
+fn check_links(
+    text: &[u8],
+    stations: u32,
+    places: Places,
+    links: &[SheetLink],
+    count: usize,
+) -> Result<(), Fault>
     requires short { ⌜ length (now text) ≤ 65536 ⌝ }
     requires listed { ⌜ 4 + count ≤ length (lines (now text)) ⌝ }
     requires long { ⌜ count ≤ length (now links) ⌝ }
@@ -83,7 +93,12 @@ fn check_links(text: &[u8], stations: u32, places: Places, links: &[SheetLink], 
 }
 
 /// Checks what the book asks of a sheet: 1 to 512 stations, and then row by row that it describes a link.
-pub(crate) fn check_book(text: &[u8], heading: Heading, links: &[SheetLink], count: usize) -> Result<(), Fault>
+pub(crate) fn check_book(
+    text: &[u8],
+    heading: Heading,
+    links: &[SheetLink],
+    count: usize,
+) -> Result<(), Fault>
     requires short { ⌜ length (now text) ≤ 65536 ⌝ }
     requires listed { ⌜ 4 + count ≤ length (lines (now text)) ⌝ }
     requires long { ⌜ count ≤ length (now links) ⌝ }
@@ -93,7 +108,12 @@ pub(crate) fn check_book(text: &[u8], heading: Heading, links: &[SheetLink], cou
 {
     let stations = heading.head.stations;
     if stations == 0 || stations > 512 {
-        return Err(fault_at_word(text, 1, heading.book_places[1], Cause::InBook(BookFault::Stations)));
+        return Err(fault_at_word(
+            text,
+            1,
+            heading.book_places[1],
+            Cause::InBook(BookFault::Stations),
+        ));
     }
     check_links(text, stations, heading.link_places, links, count)
 }

@@ -6,8 +6,6 @@ use super::heading::read_heading;
 use super::line::Cursor;
 use super::opening::check_book;
 use super::rows::read_rows;
-use super::sheet::Head;
-use super::sheet::Heading;
 use super::sheet::Reading;
 use super::sheet::SheetLink;
 
@@ -17,19 +15,38 @@ pub fn read_sheet(text: &[u8], links: &mut [SheetLink]) -> Reading
     ensures { λ r. ⌜ ReadAs (now (text .entry)) (now (links .entry)) (now (links .exit)) r ⌝ }
 {
     if text.len() > 65536 {
-        return Reading { links: 0, outcome: Err(Fault { cause: Cause::TextTooLong, line: 0, column: 0 }) };
+        return Reading {
+            links: 0,
+            outcome: Err(Fault {
+                cause: Cause::TextTooLong,
+                line: 0,
+                column: 0,
+            }),
+        };
     }
     let mut cursor = Cursor { start: 0, line: 0 };
     let heading = match read_heading(text, &mut cursor) {
         Ok(heading) => heading,
-        Err(fault) => return Reading { links: 0, outcome: Err(fault) },
+        Err(fault) => return Reading {
+            links: 0,
+            outcome: Err(fault),
+        },
     };
     let rows = read_rows(text, &mut cursor, heading.link_places, links);
     if let Some(fault) = rows.fault {
-        return Reading { links: rows.count, outcome: Err(fault) };
+        return Reading {
+            links: rows.count,
+            outcome: Err(fault),
+        };
     }
     match check_book(text, heading, links, rows.count) {
-        Ok(()) => Reading { links: rows.count, outcome: Ok(heading.head) },
-        Err(fault) => Reading { links: rows.count, outcome: Err(fault) },
+        Ok(()) => Reading {
+            links: rows.count,
+            outcome: Ok(heading.head),
+        },
+        Err(fault) => Reading {
+            links: rows.count,
+            outcome: Err(fault),
+        },
     }
 }

@@ -26,8 +26,15 @@ fn link_of(values: Values, places: Places) -> SheetLink
     requires { ⌜ (getD places 0 0 < 4) × (getD places 1 0 < 4) × (getD places 2 0 < 4) ⌝ }
     ensures { λ r. ⌜ (r .row .from ≡ getD (values .numbers) (getD places 0 0) 0) × (r .row .to ≡ getD (values .numbers) (getD places 1 0) 0) × (r .row .ns ≡ getD (values .numbers) (getD places 2 0) 0) × (r .state ≡ values .state) ⌝ }
 {
-    let row = Row { from: values.numbers[places[0]], to: values.numbers[places[1]], ns: values.numbers[places[2]] };
-    SheetLink { row, state: values.state }
+    let row = Row {
+        from: values.numbers[places[0]],
+        to: values.numbers[places[1]],
+        ns: values.numbers[places[2]],
+    };
+    SheetLink {
+        row,
+        state: values.state,
+    }
 }
 
 /// The link that a line spells, unless it is one line too many.
@@ -37,14 +44,23 @@ fn read_row(bytes: &[u8], line: u32, places: Places, full: bool) -> Result<Sheet
     ensures { λ r. ⌜ Cases r (λ link. (full ≡ false) × SpelledLink places (words (now (bytes .entry))) link) (λ f. (f .line ≡ line) × WrongRow places (full ≡ true) (now (bytes .entry)) (f .cause) (f .column)) ⌝ }
 {
     if full {
-        return Err(Fault { cause: Cause::InTable(TableFault::TooManyLines), line, column: 1 });
+        return Err(Fault {
+            cause: Cause::InTable(TableFault::TooManyLines),
+            line,
+            column: 1,
+        });
     }
     let values = read_values(bytes, line, 4, places[3])?;
     Ok(link_of(values, places))
 }
 
 /// The next line of links, if the text has another line: it must not be empty.
-fn next_row(text: &[u8], cursor: &mut Cursor, places: Places, full: bool) -> Option<Result<SheetLink, Fault>>
+fn next_row(
+    text: &[u8],
+    cursor: &mut Cursor,
+    places: Places,
+    full: bool,
+) -> Option<Result<SheetLink, Fault>>
     requires short { ⌜ length (now text) ≤ 65536 ⌝ }
     requires at { ⌜ LineAt (now text) (now cursor .line) (now cursor .start) ⌝ }
     requires placed { ⌜ Placed places ⌝ }
@@ -53,7 +69,11 @@ fn next_row(text: &[u8], cursor: &mut Cursor, places: Places, full: bool) -> Opt
         (λ f. AtLine (now (cursor .entry) .line) f (RowFault (now (text .entry)) places (full ≡ true) (now (cursor .entry) .line)))) ⌝ }
 {
     match next_line(text, cursor, Role::AsValues)? {
-        Line::Divider { line, column, .. } => Some(Err(Fault { cause: Cause::InTable(TableFault::LineDue), line, column })),
+        Line::Divider { line, column, .. } => Some(Err(Fault {
+            cause: Cause::InTable(TableFault::LineDue),
+            line,
+            column,
+        })),
         Line::Names { bytes, line, .. } => Some(read_row(bytes, line, places, full)),
         Line::Values { bytes, line, .. } => Some(read_row(bytes, line, places, full)),
     }
@@ -67,7 +87,12 @@ pub struct RowsOutcome {
 }
 
 /// Reads lines of links to the text's end, into the memory given.
-pub(crate) fn read_rows(text: &[u8], cursor: &mut Cursor, places: Places, links: &mut [SheetLink]) -> RowsOutcome
+pub(crate) fn read_rows(
+    text: &[u8],
+    cursor: &mut Cursor,
+    places: Places,
+    links: &mut [SheetLink],
+) -> RowsOutcome
     requires short { ⌜ length (now text) ≤ 65536 ⌝ }
     requires at { ⌜ LineAt (now text) (now cursor .line) (now cursor .start) ⌝ }
     requires fifth { ⌜ now cursor .line ≡ 4 ⌝ }
@@ -83,7 +108,10 @@ pub(crate) fn read_rows(text: &[u8], cursor: &mut Cursor, places: Places, links:
                 links[count] = link;
                 count += 1;
             }
-            Err(fault) => return RowsOutcome { count, fault: Some(fault) },
+            Err(fault) => return RowsOutcome {
+                count,
+                fault: Some(fault),
+            },
         }
     }
     RowsOutcome { count, fault: None }

@@ -1,5 +1,4 @@
 use super::fault::Fault;
-use super::names::Places;
 use super::word::State;
 use network::row::Row;
 
@@ -22,12 +21,4 @@ pub struct SheetLink {
 pub struct Reading {
     pub links: usize,
     pub outcome: Result<Head, Fault>,
-}
-
-/// The head of a sheet, and where the names of its two tables stand.
-#[derive(Clone, Copy)]
-pub struct Heading {
-    pub head: Head,
-    pub book_places: Places,
-    pub link_places: Places,
 }

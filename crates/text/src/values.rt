@@ -37,17 +37,29 @@ fn read_word(word: &[u8], j: usize, state_at: usize, values: &mut Values) -> Res
 
 /// Reads a line of values: a state at the place `state_at`, if that is one of the columns, and numbers at all others. The first
 /// fault of the line is its count of words, or else its first word that spells no such value.
-pub(crate) fn read_values(line: &[u8], line_number: u32, columns: usize, state_at: usize) -> Result<Values, Fault>
+pub(crate) fn read_values(
+    line: &[u8],
+    line_number: u32,
+    columns: usize,
+    state_at: usize,
+) -> Result<Values, Fault>
     requires short { ⌜ length (now line) ≤ 65536 ⌝ }
     requires few { ⌜ columns ≤ 4 ⌝ }
     ensures { λ r. ⌜ Cases r (λ v. ValuesRead columns «state_at» (words (now (line .entry))) v) (λ f. (f .line ≡ «line_number») × ValuesFault columns «state_at» (now (line .entry)) (f .cause) (f .column)) ⌝ }
 {
     check_count(line, line_number, columns)?;
-    let mut values = Values { numbers: [0; 4], state: State::In };
+    let mut values = Values {
+        numbers: [0; 4],
+        state: State::In,
+    };
     for j in 0..columns {
         let word = nth_word(line, j);
         if let Err(fault) = read_word(word.bytes, j, state_at, &mut values) {
-            return Err(Fault { cause: Cause::InWord(fault), line: line_number, column: word.column });
+            return Err(Fault {
+                cause: Cause::InWord(fault),
+                line: line_number,
+                column: word.column,
+            });
         }
     }
     Ok(values)

@@ -48,5 +48,8 @@ pub(crate) fn nth_word<'a>(line: &'a [u8], j: usize) -> Word<'a>
 {
     let start = word_start(line, j);
     let end = piece_end(line, start, Stop::AtSeparator);
-    Word { bytes: &line[start..end], column: (start + 1) as u32 }
+    Word {
+        bytes: &line[start..end],
+        column: (start + 1) as u32,
+    }
 }

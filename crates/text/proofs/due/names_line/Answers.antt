@@ -20,5 +20,5 @@ pub returns : need.returns
 returns c =
     let told = c .in-Continue-bytes .ensures tt in
     cases-weaker (c .read-names .result) (c .read-names .ensures)
-      (λ places read. (told .0, subst (λ (bytes : List ℕ). Ordered (c .args .table) (words bytes) places) (told .1) read, told .2))
-      (λ f wrong. (wrong .0 ∙ told .2 .line, faulty (told .0) (subst (λ (bytes : List ℕ). NamesFault (c .args .table) bytes (f .cause) (f .column)) (told .1) (wrong .1))))
+    (λ places read. (told .0, subst (λ (bytes : List ℕ). Ordered (c .args .table) (words bytes) places) (told .1) read, told .2))
+    (λ f wrong. (wrong .0 ∙ told .2 .line, faulty (told .0) (subst (λ (bytes : List ℕ). NamesFault (c .args .table) bytes (f .cause) (f .column)) (told .1) (wrong .1))))

@@ -20,5 +20,5 @@ pub returns : need.returns
 returns c =
     let told = c .in-Continue-bytes .ensures tt in
     cases-weaker (c .read-values .result) (c .read-values .ensures)
-      (λ values read. (told .0, subst (λ (bytes : List ℕ). ValuesRead (c .args .columns) (c .args .state-at) (words bytes) values) (told .1) read, told .2))
-      (λ f wrong. (wrong .0 ∙ told .2 .line, faulty (told .0) (subst (λ (bytes : List ℕ). ValuesFault (c .args .columns) (c .args .state-at) bytes (f .cause) (f .column)) (told .1) (wrong .1))))
+    (λ values read. (told .0, subst (λ (bytes : List ℕ). ValuesRead (c .args .columns) (c .args .state-at) (words bytes) values) (told .1) read, told .2))
+    (λ f wrong. (wrong .0 ∙ told .2 .line, faulty (told .0) (subst (λ (bytes : List ℕ). ValuesFault (c .args .columns) (c .args .state-at) bytes (f .cause) (f .column)) (told .1) (wrong .1))))

@@ -25,6 +25,6 @@ returns-in-Break-values c =
     let told = c .in-Continue-places .ensures tt in
     let second : c .names-line .last .cursor .line ≡ 1 = told .2 .line ∙ ap (λ (i : ℕ). i + 1) (c .pre .first) in
     rw (p .1, p .2) (book-values places
-      (subst (λ (i : ℕ). Stands text i) (c .pre .first) (told .0))
-      (subst (λ (i : ℕ). Ordered Book (words (line text i)) places) (c .pre .first) (told .1))
-      (subst (λ (i : ℕ). AtLine i fault (DueFault text i (ValuesFault 2 no-state))) second (c .in-Break-values .ensures tt)))
+    (subst (λ (i : ℕ). Stands text i) (c .pre .first) (told .0))
+    (subst (λ (i : ℕ). Ordered Book (words (line text i)) places) (c .pre .first) (told .1))
+    (subst (λ (i : ℕ). AtLine i fault (DueFault text i (ValuesFault 2 no-state))) second (c .in-Break-values .ensures tt)))

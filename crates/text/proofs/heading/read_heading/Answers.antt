@@ -14,7 +14,7 @@ returns-in-Break-divider-line c =
     let text = c .args .text .now in
     let book = c .in-Continue-head .ensures tt in
     rw (p .1, p .2) (divider (c .in-Continue-head .book-places) (c .in-Continue-head .head) (book .0)
-      (subst (λ (i : ℕ). AtLine i fault (DividerFault text i)) (book .1) (c .in-Break-divider-line .ensures tt)))
+    (subst (λ (i : ℕ). AtLine i fault (DividerFault text i)) (book .1) (c .in-Break-divider-line .ensures tt)))
 
 pub returns-in-Break-link-places : need.returns-in-Break-link-places
 returns-in-Break-link-places c =
@@ -25,5 +25,5 @@ returns-in-Break-link-places c =
     let empty = c .in-Continue-divider-line .ensures tt in
     let fourth : c .divider-line .last .cursor .line ≡ 3 = empty .1 .line ∙ ap (λ (i : ℕ). i + 1) (book .1) in
     rw (p .1, p .2) (link-names (c .in-Continue-head .book-places) (c .in-Continue-head .head) (book .0)
-      (subst (λ (i : ℕ). Empty text i) (book .1) (empty .0))
-      (subst (λ (i : ℕ). AtLine i fault (DueFault text i (NamesFault Links))) fourth (c .in-Break-link-places .ensures tt)))
+    (subst (λ (i : ℕ). Empty text i) (book .1) (empty .0))
+    (subst (λ (i : ℕ). AtLine i fault (DueFault text i (NamesFault Links))) fourth (c .in-Break-link-places .ensures tt)))

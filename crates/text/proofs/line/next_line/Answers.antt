@@ -19,8 +19,10 @@ returns c =
     let after = line-next (c .pre .at) (c .piece-end-end .ensures) some in
     record {
       next = (
-        line-listed (c .pre .at) (c .piece-end-end .ensures) some, refl,
+        line-listed (c .pre .at) (c .piece-end-end .ensures) some,
+        refl,
         subst (λ (bytes : List ℕ). LineIs bytes (here .line + 1) (c .args .role) (c .line-of .result))
-          (sym (line-is (c .pre .at) (c .piece-end-end .ensures) some)) (c .line-of .ensures));
-      at = subst (λ (n : ℕ). LineAt text (here .line + 1) n) (sym (c .min-cursor .ensures)) after
+            (sym (line-is (c .pre .at) (c .piece-end-end .ensures) some)) (c .line-of .ensures),
+      );
+      at = subst (λ (n : ℕ). LineAt text (here .line + 1) n) (sym (c .min-cursor .ensures)) after;
     }

@@ -12,7 +12,7 @@ nth-word-column-requires c κs =
     let is = c .nth-line-line .ensures in
     record {
       few = omega (arith, ap length is, line-short (c .args .text .now) (c .args .i), c .pre .short);
-      listed = subst (λ (bytes : List ℕ). c .args .j < length (words bytes)) (sym is) (c .pre .word)
+      listed = subst (λ (bytes : List ℕ). c .args .j < length (words bytes)) (sym is) (c .pre .word);
     }
 
 pub add-result : need.add-result

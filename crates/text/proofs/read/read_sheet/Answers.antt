@@ -13,7 +13,7 @@ returns-in-Err c =
     record {
       places = [];
       memory = no-rows (c .args .text .now) [] (c .args .links .now);
-      outcome = heading (omega arith) refl (c .in-Err .ensures tt)
+      outcome = heading (omega arith) refl (c .in-Err .ensures tt);
     }
 
 pub returns-in-Some : need.returns-in-Some
@@ -31,5 +31,5 @@ returns-in-Err-check-book c =
     record {
       places = _;
       memory = read .read;
-      outcome = book _ _ _ (record { short = omega arith; headed = headed .0; rows = read .read .rows; end = end }) (c .in-Err-check-book .ensures tt)
+      outcome = book _ _ _ (record { short = omega arith; headed = headed .0; rows = read .read .rows; end = end }) (c .in-Err-check-book .ensures tt);
     }

@@ -29,5 +29,5 @@ returns-in-Values c =
     let told = subst (λ (l : Line). LineIs (getD (lines text) i []) (i + 1) AsValues l) (c .in-Values .is) (next .next .2) in
     let stands : Stands text i = record { listed = next .next .0; some = told .3 } in
     cases-weaker (c .read-row-in-Values .result) (c .read-row-in-Values .ensures)
-      (λ link read. (stands, read .0, subst (λ (bytes : List ℕ). SpelledLink (c .args .places) (words bytes) link) (told .0) (read .1), record { line = next .next .1; at = next .at }))
-      (λ f found. (found .0 ∙ told .1, wrong stands (subst (λ (bytes : List ℕ). WrongRow (c .args .places) (c .args .full ≡ true) bytes (f .cause) (f .column)) (told .0) (found .1))))
+    (λ link read. (stands, read .0, subst (λ (bytes : List ℕ). SpelledLink (c .args .places) (words bytes) link) (told .0) (read .1), record { line = next .next .1; at = next .at }))
+    (λ f found. (found .0 ∙ told .1, wrong stands (subst (λ (bytes : List ℕ). WrongRow (c .args .places) (c .args .full ≡ true) bytes (f .cause) (f .column)) (told .0) (found .1))))

@@ -17,12 +17,13 @@ loop-row-again c =
     let text = c .args .text .now in
     let here : c .loop-row .cursor .line ≡ 4 + c .loop-row .count = c .loop-row .inv .1 in
     let space : c .loop-row .count < room (c .args .links .now)
-          = omega (arith, c .loop-row .inv .2 .few, c .min-most .ensures, eqb-false (c .loop-row .count) (c .min-most .result) (told .1))
+    = omega (arith, c .loop-row .inv .2 .few, c .min-most .ensures, eqb-false (c .loop-row .count) (c .min-most .result) (told .1))
     in (
-      told .3 .at, omega (arith, told .3 .line, here),
+      told .3 .at,
+      omega (arith, told .3 .line, here),
       row-more (c .loop-row .inv .2) (c .in-Ok .link) space
-        (subst (λ (i : ℕ). Stands text i) here (told .0))
-        (subst (λ (i : ℕ). SpelledLink (c .args .places) (words (line text i)) (c .in-Ok .link)) here (told .2))
+          (subst (λ (i : ℕ). Stands text i) here (told .0))
+          (subst (λ (i : ℕ). SpelledLink (c .args .places) (words (line text i)) (c .in-Ok .link)) here (told .2)),
     )
 
 pub returns-in-Err : need.returns-in-Err

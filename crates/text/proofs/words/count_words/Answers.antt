@@ -14,8 +14,8 @@ loop-byte-again c =
     let line = c .args .line .now in
     let i = c .loop-byte .byte-index in
     elim (c .if-is-stop .came) [
-      then-is-stop w ↦ (omega (arith, w .n-is, c .loop-byte .inv .0, words-at-stop line i (c .loop-byte-test .taken) (c .is-stop .ensures .yes (w .if-is-stop .taken))), omega (arith, w .n-is))
-    | else-is-stop w ↦ (omega (arith, w .n-is, c .loop-byte .inv .0, words-at-other line i (c .loop-byte-test .taken) (c .is-stop .ensures .no (w .if-is-stop .left))), omega (arith, w .n-is))
+      | then-is-stop w ↦ (omega (arith, w .n-is, c .loop-byte .inv .0, words-at-stop line i (c .loop-byte-test .taken) (c .is-stop .ensures .yes (w .if-is-stop .taken))), omega (arith, w .n-is))
+      | else-is-stop w ↦ (omega (arith, w .n-is, c .loop-byte .inv .0, words-at-other line i (c .loop-byte-test .taken) (c .is-stop .ensures .no (w .if-is-stop .left))), omega (arith, w .n-is))
     ]
 
 pub returns : need.returns

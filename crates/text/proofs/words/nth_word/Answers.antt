@@ -6,5 +6,5 @@ pub returns : need.returns
 returns c =
     record {
       bytes = sym (word-is (c .word-start-start .ensures) (c .piece-end-end .ensures));
-      column = sym (c .word-start-start .ensures .column)
+      column = sym (c .word-start-start .ensures .column);
     }
