@@ -5,10 +5,10 @@ use network::row::Row;
 use std::alloc::Global;
 use std::error::AnyError;
 use std::io::Read;
-use text::fault::Fault;
 use text::read::read_sheet;
 use text::sheet::SheetLink;
-use text::word::State;
+use word::fault::Fault;
+use word::state::State;
 
 /// How many links a sheet may list.
 const MOST_LINKS: usize = 2048;

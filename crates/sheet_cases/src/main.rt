@@ -4,7 +4,7 @@ use network::row::Row;
 use std::error::AnyError;
 use text::read::read_sheet;
 use text::sheet::SheetLink;
-use text::word::State;
+use word::state::State;
 
 /// Reads one sheet into memory for so many links, and prints what came of it.
 fn show(rt: &LibcRuntime, name: &str, sheet: &[u8], room: usize) -> Result<(), AnyError> {

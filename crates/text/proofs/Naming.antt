@@ -12,10 +12,10 @@ use lib.Seq.{getD-set-same, getD-set-other}
 use borrow.Author.Tests.{lt-ltb, le-ltb, ltb-true}
 use Rattle.text.specs.Tables.{names, width, Named}
 use Rattle.text.specs.Columns.{Ordered, NewName, NameFault, NoNewName}
-use Rattle.text.specs.declared.fault.Cause.{Cause}
-use Rattle.text.specs.declared.fault.Cause.the-variants.{InWord, InLine, InTable, TextTooLong, InBook}
-use Rattle.text.specs.declared.fault.WordFault.the-variants.{Empty, NotANumber, TooLarge, BadState}
-use Rattle.text.specs.declared.fault.LineFault.the-variants.{WordCount, BadName}
+use Rattle.word.specs.declared.fault.Cause.{Cause}
+use Rattle.word.specs.declared.fault.Cause.the-variants.{InWord, InLine, InTable, TextTooLong, InBook}
+use Rattle.word.specs.declared.fault.WordFault.the-variants.{Empty, NotANumber, TooLarge, BadState}
+use Rattle.word.specs.declared.fault.LineFault.the-variants.{WordCount, BadName}
 use Rattle.text.specs.declared.table.Table.{Table}
 use Rattle.text.specs.declared.table.Table.the-variants.{Book, Links}
 

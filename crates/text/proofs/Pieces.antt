@@ -11,7 +11,7 @@ use borrow.Author.Tests.{eq-eqb, ne-eqb}
 use Rattle.std.proofs.shelf.Lists.{drop-drop, drop-more, append-nil, drop-all}
 use Rattle.std.proofs.shelf.Edits.{length-between}
 use Rattle.std.specs.shelf.Lists.{between}
-use Rattle.text.specs.Bytes.{separator, line-feed}
+use Rattle.word.specs.Bytes.{separator, line-feed}
 use Rattle.text.specs.Split.{Free, Ends, pieces, onto, words, lines, column-of, WordAt, LineAt}
 
 pub free-push : (stop : ℕ) (bs : List ℕ) (b : ℕ) → Free stop bs → (b ≡ stop → ⊥) → Free stop (bs ++ (b ∷ []))

@@ -10,7 +10,7 @@ use lib.Seq.{getD-set-same, getD-set-other}
 use Rattle.text.specs.Split.{words}
 use Rattle.text.specs.Due.{line, Stands}
 use Rattle.text.specs.Sheet.{SpelledLink, Rows, RowsRead, RowFault, WrongRow, empty, wrong, more, values, room, no-link}
-use Rattle.text.specs.declared.fault.Cause.{Cause}
+use Rattle.word.specs.declared.fault.Cause.{Cause}
 use Rattle.text.specs.declared.sheet.SheetLink.{SheetLink}
 
 pub no-rows : (text places : List ℕ) (memory : List SheetLink) → RowsRead text places memory memory 0

@@ -6,10 +6,10 @@ use lib.ListN.{length, getD}
 use Rattle.text.specs.Split.{words, column-of}
 use Rattle.text.specs.Tables.{names, width, Named}
 use Rattle.text.specs.declared.table.Table.{Table}
-use Rattle.text.specs.declared.fault.Cause.{Cause}
-use Rattle.text.specs.declared.fault.Cause.the-variants.{InWord, InLine, InTable, TextTooLong, InBook}
-use Rattle.text.specs.declared.fault.WordFault.the-variants.{Empty, NotANumber, TooLarge, BadState}
-use Rattle.text.specs.declared.fault.LineFault.the-variants.{WordCount, BadName}
+use Rattle.word.specs.declared.fault.Cause.{Cause}
+use Rattle.word.specs.declared.fault.Cause.the-variants.{InWord, InLine, InTable, TextTooLong, InBook}
+use Rattle.word.specs.declared.fault.WordFault.the-variants.{Empty, NotANumber, TooLarge, BadState}
+use Rattle.word.specs.declared.fault.LineFault.the-variants.{WordCount, BadName}
 
 -- the line has too few words, which shows behind it, or too many, which shows at the first word too many
 pub data Miscounted (columns : ℕ) (line : List ℕ) (cause : Cause) (column : ℕ) : Type 0 where

@@ -5,10 +5,10 @@ use Prim.Native.Nat.{ℕ, _+_, _≤_, _<_}
 use lib.ListN.{length, getD}
 use Rattle.text.specs.Split.{lines, LineAt}
 use Rattle.text.specs.declared.line.Cursor.{Cursor}
-use Rattle.text.specs.declared.fault.Fault.{Fault}
-use Rattle.text.specs.declared.fault.Cause.{Cause}
-use Rattle.text.specs.declared.fault.Cause.the-variants.{InTable}
-use Rattle.text.specs.declared.fault.TableFault.the-variants.{LineDue, TooManyLines}
+use Rattle.word.specs.declared.fault.Fault.{Fault}
+use Rattle.word.specs.declared.fault.Cause.{Cause}
+use Rattle.word.specs.declared.fault.Cause.the-variants.{InTable}
+use Rattle.word.specs.declared.fault.TableFault.the-variants.{LineDue, TooManyLines}
 
 -- the line i of a text, the first being 0
 abbrev pub line : List ℕ → ℕ → List ℕ

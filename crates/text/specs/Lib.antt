@@ -1,14 +1,10 @@
-pub mod Bytes
 pub mod Columns
 pub mod Due
-pub mod Faults
 pub mod Lines
-pub mod Numbers
 pub mod Opening
 pub mod Read
 pub mod Sheet
 pub mod Split
-pub mod States
 pub mod Stored
 pub mod Tables
 pub mod Values

@@ -11,9 +11,9 @@ use Rattle.text.specs.Split.{words, column-of}
 use Rattle.text.specs.Due.{line}
 use Rattle.text.specs.Sheet.{no-link}
 use Rattle.text.specs.declared.sheet.SheetLink.{SheetLink}
-use Rattle.text.specs.declared.fault.Fault.{Fault}
-use Rattle.text.specs.declared.fault.Cause.the-variants.{InBook}
-use Rattle.text.specs.declared.fault.BookFault.the-variants.{Stations, Row}
+use Rattle.word.specs.declared.fault.Fault.{Fault}
+use Rattle.word.specs.declared.fault.Cause.the-variants.{InBook}
+use Rattle.word.specs.declared.fault.BookFault.the-variants.{Stations, Row}
 
 -- a book has 1 to 512 stations
 abbrev pub FairNumber : ℕ → Type 0

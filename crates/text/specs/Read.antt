@@ -11,8 +11,8 @@ use Rattle.text.specs.Opening.{FairNumber, AllSound, BookRefused}
 use Rattle.text.specs.declared.sheet.Head.{Head}
 use Rattle.text.specs.declared.sheet.SheetLink.{SheetLink}
 use Rattle.text.specs.declared.sheet.Reading.{Reading}
-use Rattle.text.specs.declared.fault.Fault.{Fault}
-use Rattle.text.specs.declared.fault.Cause.the-variants.{TextTooLong}
+use Rattle.word.specs.declared.fault.Fault.{Fault}
+use Rattle.word.specs.declared.fault.Cause.the-variants.{TextTooLong}
 
 -- the text is a sheet with this head and the first n of these links, its names standing in these places
 pub record Spelled (text book-places places : List ℕ) (head : Head) (links : List SheetLink) (n : ℕ) : Type 0 where

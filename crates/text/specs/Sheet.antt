@@ -6,19 +6,19 @@ use lib.ListN.{length, getD}
 use Rattle.std.specs.declared.option.Option.{Option}
 use Rattle.std.specs.declared.option.Option.the-variants.{Some, None}
 use Rattle.text.specs.Split.{lines, words}
-use Rattle.text.specs.Numbers.{ReadsNumber}
-use Rattle.text.specs.States.{spelled-state}
+use Rattle.word.specs.Numbers.{ReadsNumber}
+use Rattle.word.specs.States.{spelled-state}
 use Rattle.text.specs.Columns.{Ordered, NamesFault}
 use Rattle.text.specs.Values.{ValuesFault}
 use Rattle.text.specs.Due.{line, Stands, Empty, DueFault, DividerFault, AtLine}
 use Rattle.text.specs.declared.table.Table.the-variants.{Book, Links}
 use Rattle.text.specs.declared.sheet.Head.{Head}
 use Rattle.text.specs.declared.sheet.SheetLink.{SheetLink}
-use Rattle.text.specs.declared.word.State.the-variants.{In}
-use Rattle.text.specs.declared.fault.Fault.{Fault}
-use Rattle.text.specs.declared.fault.Cause.{Cause}
-use Rattle.text.specs.declared.fault.Cause.the-variants.{InTable, TextTooLong}
-use Rattle.text.specs.declared.fault.TableFault.the-variants.{LineDue, TooManyLines}
+use Rattle.word.specs.declared.state.State.the-variants.{In}
+use Rattle.word.specs.declared.fault.Fault.{Fault}
+use Rattle.word.specs.declared.fault.Cause.{Cause}
+use Rattle.word.specs.declared.fault.Cause.the-variants.{InTable, TextTooLong}
+use Rattle.word.specs.declared.fault.TableFault.the-variants.{LineDue, TooManyLines}
 
 -- the longest text, in bytes
 abbrev pub longest : ℕ

@@ -6,7 +6,7 @@ use Prim.Native.Nat.{ℕ, zero, suc, _+_, _≤_, _<_}
 use lib.Dec.{eqb}
 use lib.ListN.{length, getD, drop}
 use Rattle.std.specs.shelf.Lists.{between}
-use Rattle.text.specs.Bytes.{separator, line-feed}
+use Rattle.word.specs.Bytes.{separator, line-feed}
 use Rattle.text.specs.declared.split.Stop.{Stop}
 use Rattle.text.specs.declared.split.Stop.the-variants.{AtSeparator, AtLineFeed}
 

@@ -4,14 +4,14 @@ use mathlib.Core.List.{List, []}
 use Prim.Native.Nat.{ℕ, _<_}
 use lib.ListN.{length, getD}
 use Rattle.text.specs.Split.{words}
-use Rattle.text.specs.Numbers.{ReadsNumber, NumberFault}
-use Rattle.text.specs.States.{spelled-state, StateFault}
+use Rattle.word.specs.Numbers.{ReadsNumber, NumberFault}
+use Rattle.word.specs.States.{spelled-state, StateFault}
 use Rattle.text.specs.Columns.{Faulty}
-use Rattle.text.specs.declared.word.State.{State}
+use Rattle.word.specs.declared.state.State.{State}
 use Rattle.text.specs.declared.values.Values.{Values}
-use Rattle.text.specs.declared.fault.WordFault.{WordFault}
-use Rattle.text.specs.declared.fault.Cause.{Cause}
-use Rattle.text.specs.declared.fault.Cause.the-variants.{InWord, InLine, InTable, TextTooLong, InBook}
+use Rattle.word.specs.declared.fault.WordFault.{WordFault}
+use Rattle.word.specs.declared.fault.Cause.{Cause}
+use Rattle.word.specs.declared.fault.Cause.the-variants.{InWord, InLine, InTable, TextTooLong, InBook}
 
 -- the word w at the place j spells the state s, if a state stands there, and else the number n
 pub record Spells (state-at j : ℕ) (w : List ℕ) (n : ℕ) (s : State) : Type 0 where

@@ -8,9 +8,6 @@ ghost use Rattle.text.specs.Tables.{width};
 ghost use Rattle.text.specs.Columns.{Ordered, NamesFault};
 ghost use Rattle.text.specs.Values.{ValuesRead, ValuesFault};
 ghost use Rattle.text.specs.Due.{line as line-of, Stands, Empty, Moved, DueFault, DividerFault, Never, AtLine};
-use super::fault::Cause;
-use super::fault::Fault;
-use super::fault::TableFault;
 use super::line::Cursor;
 use super::line::Line;
 use super::line::Role;
@@ -20,6 +17,9 @@ use super::names::read_names;
 use super::table::Table;
 use super::values::Values;
 use super::values::read_values;
+use word::fault::Cause;
+use word::fault::Fault;
+use word::fault::TableFault;
 
 /// The bytes of the next line, which must not be empty.
 fn due_line<'a>(text: &'a [u8], cursor: &mut Cursor, role: Role) -> Result<&'a [u8], Fault>

@@ -9,12 +9,12 @@ ghost use Rattle.text.specs.Sheet.{BookTable, Headed, HeadingFault};
 use super::due::divider_line;
 use super::due::names_line;
 use super::due::values_line;
-use super::fault::Fault;
 use super::line::Cursor;
 use super::names::Places;
 use super::sheet::Head;
 use super::table::Table;
 use super::values::Values;
+use word::fault::Fault;
 
 /// The head of a sheet, and where the names of its two tables stand.
 #[derive(Clone, Copy)]

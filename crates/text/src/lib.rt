@@ -1,8 +1,6 @@
-//! Sheets as text: bytes, words, lines and tables, read with their positions.
+//! Sheets as text: lines, words and tables, read with their positions.
 
-pub mod byte;
 mod due;
-pub mod fault;
 mod heading;
 pub mod line;
 mod names;
@@ -13,5 +11,4 @@ pub mod sheet;
 mod split;
 mod table;
 mod values;
-pub mod word;
 mod words;

@@ -7,15 +7,15 @@ ghost use Rattle.std.specs.Results.{Cases};
 ghost use Rattle.text.specs.Split.{words};
 ghost use Rattle.text.specs.Tables.{names, width};
 ghost use Rattle.text.specs.Columns.{Miscounted, NoNewName, Ordered, NamesFault};
-use super::fault::Cause;
-use super::fault::Fault;
-use super::fault::LineFault;
-use super::fault::WordFault;
 use super::table::Table;
 use super::table::column_count;
 use super::table::column_named;
 use super::words::count_words;
 use super::words::nth_word;
+use word::fault::Cause;
+use word::fault::Fault;
+use word::fault::LineFault;
+use word::fault::WordFault;
 
 /// Which word of a line stands under each name of its table, the names in the order of their definition; the rest of the four
 /// are not used.

@@ -9,9 +9,6 @@ ghost use Rattle.text.specs.Split.{lines, words};
 ghost use Rattle.text.specs.Due.{line as line-of};
 ghost use Rattle.text.specs.Sheet.{no-link};
 ghost use Rattle.text.specs.Opening.{AtWord, WordAtFault, AllSound, RowRefused, FairNumber, BookRefused};
-use super::fault::BookFault;
-use super::fault::Cause;
-use super::fault::Fault;
 use super::heading::Heading;
 use super::names::Places;
 use super::sheet::SheetLink;
@@ -20,6 +17,9 @@ use super::split::piece_end;
 use super::words::nth_word;
 use network::link::Link;
 use network::refusal::RowRefusal;
+use word::fault::BookFault;
+use word::fault::Cause;
+use word::fault::Fault;
 
 /// The line `i` of the text.
 fn nth_line<'a>(text: &'a [u8], i: usize) -> &'a [u8]

@@ -1,13 +1,13 @@
 ghost use Prim.Native.Nat.{ℕ};
 ghost use Rattle.text.specs.Read.{ReadAs};
-use super::fault::Cause;
-use super::fault::Fault;
 use super::heading::read_heading;
 use super::line::Cursor;
 use super::opening::check_book;
 use super::rows::read_rows;
 use super::sheet::Reading;
 use super::sheet::SheetLink;
+use word::fault::Cause;
+use word::fault::Fault;
 
 /// Reads the two tables of a sheet, the book's and the links', into the memory given. The links that were read stand at its start,
 /// also where a fault came after them, and the rest of it stays.

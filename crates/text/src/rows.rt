@@ -8,9 +8,6 @@ ghost use Rattle.std.specs.Options.{Cases as BySome};
 ghost use Rattle.text.specs.Split.{lines, words, LineAt};
 ghost use Rattle.text.specs.Due.{line as line-of, Stands, AtLine, Moved};
 ghost use Rattle.text.specs.Sheet.{Placed, SpelledLink, WrongRow, RowFault, RowsRead, RowsEnd};
-use super::fault::Cause;
-use super::fault::Fault;
-use super::fault::TableFault;
 use super::line::Cursor;
 use super::line::Line;
 use super::line::Role;
@@ -20,6 +17,9 @@ use super::sheet::SheetLink;
 use super::values::Values;
 use super::values::read_values;
 use network::row::Row;
+use word::fault::Cause;
+use word::fault::Fault;
+use word::fault::TableFault;
 
 /// The link that the values of a line spell, under names with these places.
 fn link_of(values: Values, places: Places) -> SheetLink

@@ -1,6 +1,6 @@
-use super::fault::Fault;
-use super::word::State;
 use network::row::Row;
+use word::fault::Fault;
+use word::state::State;
 
 /// What the first table of a sheet says: the book's number, and how many stations it has.
 #[derive(Clone, Copy)]

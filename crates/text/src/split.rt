@@ -3,8 +3,8 @@ ghost use mathlib.Core.Path.{_≡_};
 ghost use Prim.Native.Nat.{_≤_};
 ghost use lib.ListN.{length};
 ghost use Rattle.text.specs.Split.{stop-byte, Ends};
-use super::byte::Kind;
-use super::byte::kind_of;
+use word::byte::Kind;
+use word::byte::kind_of;
 
 /// Which byte ends a piece: a word ends at a separator, a line at a line feed.
 #[derive(Clone, Copy)]

@@ -1,10 +1,10 @@
-ghost use mathlib.Core.Bool.{true, false};
 ghost use mathlib.Core.Path.{_≡_};
 ghost use mathlib.Core.List.{[]};
 ghost use Prim.Native.Nat.{ℕ, _<_};
 ghost use lib.ListN.{length, getD};
 ghost use Rattle.std.specs.Options.{Cases as BySome};
 ghost use Rattle.text.specs.Tables.{names, width, Named};
+use word::state::same;
 
 /// The tables of a sheet.
 #[derive(Clone, Copy)]
@@ -55,12 +55,4 @@ pub(crate) fn column_named(table: Table, word: &[u8]) -> Option<usize>
             None
         }
     }
-}
-
-/// Whether two words are the same.
-pub(crate) fn same(word: &[u8], other: &[u8]) -> bool
-    ensures yes { λ r. ⌜ (r ≡ true → now (word .entry) ≡ now (other .entry)) ⌝ }
-    ensures no { λ r. ⌜ (r ≡ false → now (word .entry) ≡ now (other .entry) → ⊥) ⌝ }
-{
-    word == other
 }

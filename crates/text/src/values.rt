@@ -6,14 +6,14 @@ ghost use Rattle.std.specs.Results.{Cases};
 ghost use Rattle.text.specs.Split.{words};
 ghost use Rattle.text.specs.Stored.{Stored};
 ghost use Rattle.text.specs.Values.{WrongWord, ValuesRead, ValuesFault};
-use super::fault::Cause;
-use super::fault::Fault;
-use super::fault::WordFault;
 use super::names::check_count;
-use super::word::State;
-use super::word::number;
-use super::word::state_of;
 use super::words::nth_word;
+use word::fault::Cause;
+use word::fault::Fault;
+use word::fault::WordFault;
+use word::numeral::number;
+use word::state::State;
+use word::state::state_of;
 
 /// The values of a line by place: its numbers, and its state, if it has one.
 #[derive(Clone, Copy)]

@@ -1,7 +1,7 @@
 use borrow.Author.Needs.{needs}
 use Prim.Native.Nat.{_<_}
 use lib.ListN.{length}
-use Rattle.text.proofs.Numerals.{empty}
+use Rattle.word.proofs.Numerals.{empty}
 use Rattle.text.proofs.names.new_name.Needs as need
 
 pub returns-then-is-empty : need.returns-then-is-empty

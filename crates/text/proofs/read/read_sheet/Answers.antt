@@ -4,7 +4,7 @@ use mathlib.Core.List.{[]}
 use Rattle.std.specs.declared.option.Option.{Option}
 use Rattle.text.specs.Sheet.{RowsEnd}
 use Rattle.text.specs.Read.{heading, row, book}
-use Rattle.text.specs.declared.fault.Fault.{Fault}
+use Rattle.word.specs.declared.fault.Fault.{Fault}
 use Rattle.text.proofs.Rowing.{no-rows}
 use Rattle.text.proofs.read.read_sheet.Needs as need
 

@@ -7,8 +7,8 @@ use mathlib.Core.List.{List, [], _∷_, _++_}
 use Prim.Native.Nat.{ℕ, zero, suc, _+_, _-_, _*_, _^_, _≤_, _<_, min}
 use lib.ListN.{length, getD, take, drop, length-append}
 use Rattle.std.proofs.shelf.Lists.{take-more, take-all, take-rest}
-use Rattle.text.specs.Bytes.{IsDigit}
-use Rattle.text.specs.Numbers.{Digits, Numeral, value}
+use Rattle.word.specs.Bytes.{IsDigit}
+use Rattle.word.specs.Numbers.{Digits, Numeral, value}
 
 pub length-push : (bs : List ℕ) (c : ℕ) → length (bs ++ (c ∷ [])) ≡ suc (length bs)
 length-push bs c = omega (arith, length-append bs (c ∷ []))

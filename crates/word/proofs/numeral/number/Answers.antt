@@ -3,9 +3,9 @@ use native.Mathlib.Omega.{arith}
 use mathlib.Core.Path.{_≡_, _∙_}
 use Prim.Native.Nat.{ℕ, _+_, _<_, _≤_}
 use lib.ListN.{length, getD}
-use Rattle.text.specs.Numbers.{value}
-use Rattle.text.proofs.Numerals.{empty, nought, leads, leads-value, rest-digits, not-empty}
-use Rattle.text.proofs.word.number.Needs as need
+use Rattle.word.specs.Numbers.{value}
+use Rattle.word.proofs.Numerals.{empty, nought, leads, leads-value, rest-digits, not-empty}
+use Rattle.word.proofs.numeral.number.Needs as need
 
 pub returns-in-rest-digits : need.returns-in-rest-digits
 returns-in-rest-digits c =

@@ -1,5 +1,5 @@
 ghost use mathlib.Core.Path.{_≡_};
-ghost use Rattle.text.specs.Faults.{number-of, layer-of, spelled};
+ghost use Rattle.word.specs.Faults.{number-of, layer-of, spelled};
 use network::refusal::RowRefusal;
 
 /// What can be wrong with one word.

@@ -1,4 +1,4 @@
-ghost use Rattle.text.specs.Bytes.{IsKind};
+ghost use Rattle.word.specs.Bytes.{IsKind};
 
 /// What a byte is to the reader of a sheet.
 #[derive(Clone, Copy)]

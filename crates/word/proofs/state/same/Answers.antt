@@ -2,7 +2,7 @@ use native.Mathlib.Omega.{arith}
 use mathlib.Core.Path.{_≡_}
 use Prim.Native.Nat.{ℕ}
 use Rattle.std.proofs.shelf.Equals.{matches-decides}
-use Rattle.text.proofs.table.same.Needs as need
+use Rattle.word.proofs.state.same.Needs as need
 
 pub returns : need.returns
 returns c =

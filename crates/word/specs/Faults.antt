@@ -3,14 +3,14 @@ use mathlib.Core.List.{List}
 use Prim.Native.Nat.{ℕ}
 use lib.Chars.{codes}
 use Rattle.network.specs.Refusals.{shown}
-use Rattle.text.specs.declared.fault.Cause.{Cause}
-use Rattle.text.specs.declared.fault.Cause.the-variants.{InWord, InLine, InTable, TextTooLong, InBook}
-use Rattle.text.specs.declared.fault.WordFault.the-variants.{Empty, NotANumber, TooLarge, BadState}
-use Rattle.text.specs.declared.fault.LineFault.the-variants.{WordCount, BadName}
-use Rattle.text.specs.declared.fault.TableFault.the-variants.{LineDue, TooManyLines}
-use Rattle.text.specs.declared.fault.BookFault.the-variants as book
-use Rattle.text.specs.declared.fault.Layer.{Layer}
-use Rattle.text.specs.declared.fault.Layer.the-variants as layer
+use Rattle.word.specs.declared.fault.Cause.{Cause}
+use Rattle.word.specs.declared.fault.Cause.the-variants.{InWord, InLine, InTable, TextTooLong, InBook}
+use Rattle.word.specs.declared.fault.WordFault.the-variants.{Empty, NotANumber, TooLarge, BadState}
+use Rattle.word.specs.declared.fault.LineFault.the-variants.{WordCount, BadName}
+use Rattle.word.specs.declared.fault.TableFault.the-variants.{LineDue, TooManyLines}
+use Rattle.word.specs.declared.fault.BookFault.the-variants as book
+use Rattle.word.specs.declared.fault.Layer.{Layer}
+use Rattle.word.specs.declared.fault.Layer.the-variants as layer
 
 abbrev pub number-of : Cause → ℕ
 number-of (InWord Empty) = 21

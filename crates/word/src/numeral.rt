@@ -4,19 +4,10 @@ ghost use mathlib.Core.Path.{_≡_};
 ghost use mathlib.Core.List.{_∷_};
 ghost use lib.ListN.{length};
 ghost use Rattle.std.specs.Options.{Cases as BySome};
-ghost use Rattle.text.specs.Numbers.{Digits, value, ReadsNumber, NumberFault};
-ghost use Rattle.text.specs.States.{spelled-state, StateFault};
+ghost use Rattle.word.specs.Numbers.{Digits, value, ReadsNumber, NumberFault};
 use super::byte::Kind;
 use super::byte::kind_of;
 use super::fault::WordFault;
-use super::table::same;
-
-/// Whether a link is in service at the opening, or out for good.
-#[derive(Clone, Copy)]
-pub enum State {
-    In,
-    Off,
-}
 
 /// The number that a word spells: a single `0`, or a digit `1` to `9` with further digits, at most 4,294,967,295. All bytes are
 /// judged before the size.
@@ -57,20 +48,4 @@ fn digits(lead: u8, rest: &[u8]) -> Option<u64>
         n = (n * 10 + u64::from(digit)).min(1 << 32);
     }
     Some(n)
-}
-
-/// The state that a word spells, `in` or `off`.
-pub fn state_of(word: &[u8]) -> Result<State, WordFault>
-    ensures { λ r. ⌜ Cases r (λ s. now (word .entry) ≡ spelled-state s) (λ e. StateFault (now (word .entry)) e) ⌝ }
-{
-    if word.is_empty() {
-        return Err(WordFault::Empty);
-    }
-    if same(word, b"in") {
-        return Ok(State::In);
-    }
-    if same(word, b"off") {
-        return Ok(State::Off);
-    }
-    Err(WordFault::BadState)
 }

@@ -1,8 +1,8 @@
 -- The bytes of a sheet, by what they are to its reader.
 use mathlib.Core.Path.{_≡_}
 use Prim.Native.Nat.{ℕ, _+_, _≤_, _<_}
-use Rattle.text.specs.declared.byte.Kind.{Kind}
-use Rattle.text.specs.declared.byte.Kind.the-variants.{Separator, LineFeed, Digit, Point, Other}
+use Rattle.word.specs.declared.byte.Kind.{Kind}
+use Rattle.word.specs.declared.byte.Kind.the-variants.{Separator, LineFeed, Digit, Point, Other}
 
 -- `;`
 abbrev pub separator : ℕ

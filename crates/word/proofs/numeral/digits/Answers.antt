@@ -4,11 +4,11 @@ use mathlib.Core.List.{List, _∷_}
 use Prim.Native.Nat.{ℕ, _+_, _-_, _*_, _^_, _<_, min}
 use lib.ListN.{length, getD, take}
 use Rattle.std.proofs.shelf.Lists.{take-all}
-use Rattle.text.specs.Bytes.{IsDigit}
-use Rattle.text.specs.Numbers.{Digits, value}
-use Rattle.text.proofs.Digits.{no-digit}
-use Rattle.text.proofs.Numerals.{digit-at, digits-more}
-use Rattle.text.proofs.word.digits.Needs as need
+use Rattle.word.specs.Bytes.{IsDigit}
+use Rattle.word.specs.Numbers.{Digits, value}
+use Rattle.word.proofs.Digits.{no-digit}
+use Rattle.word.proofs.Numerals.{digit-at, digits-more}
+use Rattle.word.proofs.numeral.digits.Needs as need
 
 pub returns-in-rest : need.returns-in-rest
 returns-in-rest c = λ ds. no-digit _ (c .kind-of .result) (c .kind-of .ensures) (c .in-rest .not-Digit) (digit-at (c .args .rest .now) (c .loop-byte .byte-index) ds (c .loop-byte-test .taken))

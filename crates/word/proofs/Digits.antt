@@ -2,9 +2,9 @@
 use native.Mathlib.Omega.{arith}
 use mathlib.Core.Path.{_≡_, refl}
 use Prim.Native.Nat.{ℕ, _+_, _<_}
-use Rattle.text.specs.Bytes.{IsKind, IsDigit}
-use Rattle.text.specs.declared.byte.Kind.{Kind}
-use Rattle.text.specs.declared.byte.Kind.the-variants.{Separator, LineFeed, Digit, Point, Other}
+use Rattle.word.specs.Bytes.{IsKind, IsDigit}
+use Rattle.word.specs.declared.byte.Kind.{Kind}
+use Rattle.word.specs.declared.byte.Kind.the-variants.{Separator, LineFeed, Digit, Point, Other}
 
 pub no-digit : (b : ℕ) (k : Kind) → IsKind b k → ((d : ℕ) → k ≡ Digit d → ⊥) → IsDigit b → ⊥
 no-digit b Separator h n d = omega arith

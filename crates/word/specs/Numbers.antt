@@ -3,9 +3,9 @@ use mathlib.Core.Path.{_≡_}
 use mathlib.Core.List.{List, [], _∷_}
 use Prim.Native.Nat.{ℕ, _+_, _-_, _*_, _^_, _≤_, _<_}
 use lib.ListN.{length}
-use Rattle.text.specs.Bytes.{IsDigit}
-use Rattle.text.specs.declared.fault.WordFault.{WordFault}
-use Rattle.text.specs.declared.fault.WordFault.the-variants.{Empty, NotANumber, TooLarge, BadState}
+use Rattle.word.specs.Bytes.{IsDigit}
+use Rattle.word.specs.declared.fault.WordFault.{WordFault}
+use Rattle.word.specs.declared.fault.WordFault.the-variants.{Empty, NotANumber, TooLarge, BadState}
 
 -- every byte is a digit
 abbrev pub Digits : List ℕ → Type 0

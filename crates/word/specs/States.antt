@@ -3,10 +3,10 @@ use mathlib.Core.Path.{_≡_}
 use mathlib.Core.List.{List, []}
 use Prim.Native.Nat.{ℕ}
 use lib.Chars.{codes}
-use Rattle.text.specs.declared.word.State.{State}
-use Rattle.text.specs.declared.word.State.the-variants.{In, Off}
-use Rattle.text.specs.declared.fault.WordFault.{WordFault}
-use Rattle.text.specs.declared.fault.WordFault.the-variants.{Empty, NotANumber, TooLarge, BadState}
+use Rattle.word.specs.declared.state.State.{State}
+use Rattle.word.specs.declared.state.State.the-variants.{In, Off}
+use Rattle.word.specs.declared.fault.WordFault.{WordFault}
+use Rattle.word.specs.declared.fault.WordFault.the-variants.{Empty, NotANumber, TooLarge, BadState}
 
 abbrev pub spelled-state : State → List ℕ
 spelled-state In = codes "in"
