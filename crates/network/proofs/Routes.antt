@@ -40,11 +40,6 @@ turn-sum g ks = omega (arith, turn-onto-sum g ks [])
 pub link : {g : Network} {k a b : ℕ} → Hop g k a b → Route g a (k ∷ []) b
 link h = step h here
 
--- what leads nowhere ends where it began
-pub stays : {g : Network} {a b : ℕ} {ks : List ℕ} → Route g a ks b → ks ≡ [] → a ≡ b
-stays here e = refl
-stays (step h p) e = let z : _≡_ {A = ℕ} 0 1 = cc in absurd (omega arith)
-
 -- what every hop has, every link of a route has
 pub each-hop : {g : Network} {a b : ℕ} {ks : List ℕ} {such : ℕ → Type 0} → ((k c d : ℕ) → Hop g k c d → such k) → Route g a ks b → Each such ks
 each-hop f here = none

@@ -1,13 +1,17 @@
 -- What is proved of the words of a network. Each group of laws is the contract of the function of src/laws.rt that has its name.
 use mathlib.Core.Path.{_≡_}
 use mathlib.Core.List.{List, [], _∷_, _++_, reverse}
-use mathlib.Core.Bool.{true, false}
+use mathlib.Core.Bool.{Bool, true, false}
 use mathlib.Core.Logic.{_⊎_, _↔_}
-use Prim.Native.Nat.{ℕ, suc, _+_, _*_, _≤_, _<_, _^_}
+use Prim.Native.Nat.{ℕ, suc, _+_, _*_, _/_, _≤_, _<_, _^_}
 use lib.ListN.{length, getD}
+use Rattle.std.specs.declared.option.Option.{Option}
+use Rattle.std.specs.declared.option.Option.the-variants.{Some, None}
 use Rattle.network.specs.Levels.{IsLevel}
 use Rattle.network.specs.Lists.{Distinct, Inside}
 use Rattle.network.specs.Network.{Network, Proper, Route, NoRoute, Attained, Least, Each, Small, Under, Group, Joint, row, delay, sum}
+use Rattle.network.specs.Next.{Known, Bucketed, Next, Passes}
+use Rattle.network.specs.Picked.{Settled, Picked}
 
 pub record Routes-join-and-turn : Type 0 where
   -- the empty route leads from a station to itself
@@ -31,6 +35,35 @@ pub record Least-delay-is-a-distance : Type 0 where
   pub symmetric : (g : Network) (a b x : ℕ) → Least g a b x → Least g b a x
   pub triangle : (g : Network) (a b c x y z : ℕ) → Least g a b x → Least g b c y → Least g a c z → z ≤ x + y
 
+pub record A-route-gives-a-least-one : Type 0 where
+  -- where there is a route, there is a least delay
+  pub exists : (g : Network) (a b : ℕ) (ks : List ℕ) → Proper g → Route g a ks b → (d : ℕ) × Least g a b d
+  -- two stations have no route or a least delay: one of the two, and not both
+  pub either : (g : Network) (a b : ℕ) → Proper g → NoRoute g a b ⊎ ((d : ℕ) × Least g a b d)
+  pub not-both : (g : Network) (a b d : ℕ) → NoRoute g a b → ¬ Attained g a b d
+
+-- a route from a to b over some of the links ks, none of them twice, that takes no longer
+pub record Cut (g : Network) (a b : ℕ) (ks : List ℕ) : Type 0 where
+  pub links : List ℕ
+  pub route : Route g a links b
+  pub distinct : Distinct links
+  pub inside : Inside links ks
+  pub shorter : sum g links ≤ sum g ks
+
+pub record Links-once-sum-below : Type 0 where
+  -- links out of ls, none of them twice, take no longer than all of ls
+  pub once : (g : Network) (ks ls : List ℕ) → Distinct ks → Inside ks ls → sum g ks ≤ sum g ls
+  -- every route can be cut to such a one
+  pub cut : (g : Network) (a b : ℕ) (ks : List ℕ) → Route g a ks b → Cut g a b ks
+
+pub record Least-is-bounded : Type 0 where
+  -- a route with the least sum has fewer links than there are stations
+  pub few : (g : Network) (a b d : ℕ) (ks : List ℕ) → Proper g → a < g .stations → Least g a b d → Route g a ks b → sum g ks ≡ d → length ks < g .stations
+  -- so among 512 stations at most, over links of 4,294,967,295 at most, no least delay is above 511 times that
+  pub bounded :
+      (g : Network) (a b d : ℕ) → Proper g → g .stations ≤ 512 → ((k : ℕ) → k < length (g .rows) → delay g k ≤ 4294967295)
+      → Least g a b d → d ≤ 511 * 4294967295
+
 pub record Under-is-an-equivalence : Type 0 where
   pub self : (g : Network) (i a : ℕ) → Under g i a a
   pub symmetric : (g : Network) (i a b : ℕ) → Under g i a b → Under g i b a
@@ -43,3 +76,57 @@ pub record Under-is-an-equivalence : Type 0 where
 -- where no route from a to b has every link under 2 ^ i, every route from a to b takes 2 ^ i or more
 abbrev pub Apart-means-long : Type 0
 Apart-means-long = (g : Network) (i a b : ℕ) → ¬ Under g i a b → (ks : List ℕ) → Route g a ks b → 2 ^ i ≤ sum g ks
+
+-- a set of stations is given here by a test
+abbrev pub GroupOf : Network → ℕ → (ℕ → Bool) → Type 0
+GroupOf g i test = Group g i (λ a. test a ≡ true)
+
+pub record Stations-fall-into-groups : Type 0 where
+  -- the stations that links under 2 ^ i join with a are a group
+  pub around : (g : Network) (i a : ℕ) → a < g .stations → Group g i (λ b. (b < g .stations) × Under g i a b)
+  -- and a group is just the stations that they join with its member
+  pub whole : (g : Network) (i : ℕ) (test : ℕ → Bool) (group : GroupOf g i test) (b : ℕ) → (test b ≡ true) ↔ ((b < g .stations) × Under g i (group .member) b)
+  -- two groups of one level that share a station are the same, and of two levels the lower lies in the higher
+  pub same : (g : Network) (i : ℕ) (one other : ℕ → Bool) → GroupOf g i one → GroupOf g i other → (a : ℕ) → one a ≡ true → other a ≡ true → (b : ℕ) → one b ≡ other b
+  pub nested : (g : Network) (i j : ℕ) (low high : ℕ → Bool) → i ≤ j → GroupOf g i low → GroupOf g j high → (a : ℕ) → low a ≡ true → high a ≡ true → (b : ℕ) → low b ≡ true → high b ≡ true
+
+pub record Joint-level-is-a-distance : Type 0 where
+  pub unique : (g : Network) (a b i j : ℕ) → Joint g a b i → Joint g a b j → i ≡ j
+  pub exists : (g : Network) (a b : ℕ) (ks : List ℕ) → Proper g → Route g a ks b → (i : ℕ) × Joint g a b i
+  pub symmetric : (g : Network) (a b i : ℕ) → Joint g a b i → Joint g b a i
+  pub zero : (g : Network) (a b : ℕ) → Proper g → Joint g a b 0 ↔ a ≡ b
+  -- by way of a third station it is at most the higher of the two
+  pub between : (g : Network) (a b c i j l : ℕ) → Joint g a b i → Joint g b c j → Joint g a c l → (l ≤ i) ⊎ (l ≤ j)
+  -- no route takes less than half of 2 ^ level
+  pub long : (g : Network) (a b i : ℕ) (ks : List ℕ) → Joint g a b (suc i) → Route g a ks b → 2 ^ i ≤ sum g ks
+  -- and 32 is the highest
+  pub highest : (g : Network) (a b i : ℕ) → ((k : ℕ) → k < length (g .rows) → delay g k ≤ 4294967295) → Joint g a b i → i ≤ 32
+
+pub record Picked-route-stands : Type 0 where
+  -- there is one at most, whatever the delays
+  pub unique : (g : Network) (delays : ℕ → Option ℕ) (s t : ℕ) (ks ls : List ℕ) → Picked g delays s ks t → Picked g delays s ls t → ks ≡ ls
+  -- where they are the least delays from s: there is one to each station with a delay, and none to another
+  pub exists : (g : Network) (delays : ℕ → Option ℕ) (s t d : ℕ) → Proper g → Settled g s delays → delays t ≡ Some d → (ks : List ℕ) × Picked g delays s ks t
+  pub none : (g : Network) (delays : ℕ → Option ℕ) (s t : ℕ) (ks : List ℕ) → Settled g s delays → delays t ≡ None → ¬ Picked g delays s ks t
+  -- it is a route in service, with that delay as its sum, of fewer links than there are stations
+  pub route : (g : Network) (delays : ℕ → Option ℕ) (s t d : ℕ) (ks : List ℕ) → Settled g s delays → Picked g delays s ks t → delays t ≡ Some d → Route g s ks t × (sum g ks ≡ d)
+  pub few : (g : Network) (delays : ℕ → Option ℕ) (s t d : ℕ) (ks : List ℕ) → Proper g → s < g .stations → Settled g s delays → Picked g delays s ks t → delays t ≡ Some d → length ks < g .stations
+
+-- a station has the delay that the function gives it
+abbrev pub At : (ℕ → Option ℕ) → ℕ → ℕ → Type 0
+At f u x = f u ≡ Some x
+
+pub record Next-visited-is-least : Type 0 where
+  -- the station that may be visited next is at its least delay
+  pub least : (g : Network) (s : ℕ) (final tentative : ℕ → Option ℕ) (v x : ℕ) → Known g s (At final) (At tentative) → Next g (At final) (At tentative) v x → Least g s v x
+  -- it holds its ground against a station at a joint level of i + 1 if it is in no later bucket of width 2 ^ i, and against one without a route to it
+  pub joint : (g : Network) (u v x y i : ℕ) → Joint g u v (suc i) → x / 2 ^ i ≤ y / 2 ^ i → Bucketed g u v x y
+  pub apart : (g : Network) (u v x y : ℕ) → NoRoute g u v → Bucketed g u v x y
+  -- a route from the source leads to a visited station, or comes by one with a tentative delay
+  pub passes :
+      (g : Network) (s : ℕ) (final tentative : ℕ → Option ℕ) (v : ℕ) (ks : List ℕ) → Known g s (At final) (At tentative) → Route g s ks v
+      → ((d : ℕ) × At final v d) ⊎ Passes g (At tentative) v (sum g ks)
+  -- so where none is left, every station with a route has been visited
+  pub all :
+      (g : Network) (s : ℕ) (final tentative : ℕ → Option ℕ) (v : ℕ) (ks : List ℕ) → Known g s (At final) (At tentative) → ((u y : ℕ) → ¬ At tentative u y)
+      → Route g s ks v → (d : ℕ) × At final v d

@@ -1,7 +1,7 @@
 //! The laws of the words of a network. A function here computes nothing: its contract is a group of theorems of
 //! specs/Laws.antt, and the crate is proved only with their proofs.
 
-ghost use Rattle.network.specs.Laws.{Routes-join-and-turn, Least-delay-is-a-distance, Under-is-an-equivalence, Apart-means-long};
+ghost use Rattle.network.specs.Laws.{Routes-join-and-turn, Least-delay-is-a-distance, A-route-gives-a-least-one, Links-once-sum-below, Least-is-bounded, Under-is-an-equivalence, Apart-means-long, Stations-fall-into-groups, Joint-level-is-a-distance, Picked-route-stands, Next-visited-is-least};
 
 /// Routes join and turn round, and their sums with them.
 pub fn routes_join_and_turn() -> u8
@@ -17,6 +17,27 @@ pub fn least_delay_is_a_distance() -> u8
     0
 }
 
+/// Two stations have a least delay exactly if there is a route.
+pub fn a_route_gives_a_least_one() -> u8
+    ensures { λ _. ⌜ A-route-gives-a-least-one ⌝ }
+{
+    0
+}
+
+/// Links out of a list, none of them twice, take no longer than the whole list; and every route can be cut to have none twice.
+pub fn links_once_sum_below() -> u8
+    ensures { λ _. ⌜ Links-once-sum-below ⌝ }
+{
+    0
+}
+
+/// A least delay is at most 511 times the greatest delay of a link, since a least route comes by no station twice.
+pub fn least_is_bounded() -> u8
+    ensures { λ _. ⌜ Least-is-bounded ⌝ }
+{
+    0
+}
+
 /// "Joined by links under 2^i" is an equivalence of the stations, and grows with i.
 pub fn under_is_an_equivalence() -> u8
     ensures { λ _. ⌜ Under-is-an-equivalence ⌝ }
@@ -27,6 +48,34 @@ pub fn under_is_an_equivalence() -> u8
 /// Where no route keeps every link under 2^i, every route takes 2^i or more.
 pub fn apart_means_long() -> u8
     ensures { λ _. ⌜ Apart-means-long ⌝ }
+{
+    0
+}
+
+/// At each level each station is in exactly one group, and the groups of a level lie in those of the next.
+pub fn stations_fall_into_groups() -> u8
+    ensures { λ _. ⌜ Stations-fall-into-groups ⌝ }
+{
+    0
+}
+
+/// The joint level of two stations is one number, 0 only for a station and itself.
+pub fn joint_level_is_a_distance() -> u8
+    ensures { λ _. ⌜ Joint-level-is-a-distance ⌝ }
+{
+    0
+}
+
+/// The route that is answered exists, is the only one, and is a least route.
+pub fn picked_route_stands() -> u8
+    ensures { λ _. ⌜ Picked-route-stands ⌝ }
+{
+    0
+}
+
+/// The station that a settling walk visits next is at its least delay.
+pub fn next_visited_is_least() -> u8
+    ensures { λ _. ⌜ Next-visited-is-least ⌝ }
 {
     0
 }

@@ -1,0 +1,144 @@
+-- The picked route: there is exactly one, and where the delays are least it is a least route.
+use mathlib.Core.Path.{_≡_, refl, sym, ap, _∙_}
+use mathlib.Core.List.{List, [], _∷_, _++_}
+use mathlib.Core.Logic.{_⊎_, inl, inr, _≢_}
+use Prim.Native.Nat.{ℕ, zero, suc, _+_, _≤_, _<_}
+use native.Mathlib.Omega.{arith}
+use native.Mathlib.Decide.{ℕ-discrete, decLt}
+use lib.ListN.{length}
+use Rattle.std.specs.declared.option.Option.{Option}
+use Rattle.std.specs.declared.option.Option.the-variants.{Some, None}
+use Rattle.network.specs.Network.{Network, Proper, Hop, Route, here, step, NoRoute, Attained, Least, delay, sum}
+use Rattle.network.specs.Picked.{Settled, Tight, Lowest, Picked, source, onward}
+use Rattle.network.proofs.Routes.{join, join-sum, link, same-start, hop-stations, hop-delay}
+use Rattle.network.proofs.Leasts.{least-le, least-one, least-self, attained-link}
+use Rattle.network.proofs.Cuts.{least-few}
+use Rattle.network.proofs.Search.{First, first?, first-of, hop?}
+
+some-none : {o : Option ℕ} {x : ℕ} → o ≡ Some x → o ≡ None → ⊥
+some-none p q = let z : _≡_ {A = ℕ} 0 1 = cc in omega arith
+
+-- the last link of a route
+pub record Ends (g : Network) (s t : ℕ) (ks : List ℕ) : Type 0 where
+  pub before : List ℕ
+  pub link : ℕ
+  pub from : ℕ
+  pub to : Route g s before from
+  pub hop : Hop g link from t
+  pub total : sum g ks ≡ sum g before + delay g link
+
+pub ends : {g : Network} {s t : ℕ} {ks : List ℕ} → Route g s ks t → ((s ≡ t) × (ks ≡ [])) ⊎ Ends g s t ks
+ends here = inl (refl, refl)
+ends {g} {t = t} (step {a = a} {b = b} {k = k} {ks = ks} h p) = inr (go (ends p))
+  where
+    go : ((b ≡ t) × (ks ≡ [])) ⊎ Ends g b t ks → Ends g a t (k ∷ ks)
+    go (inl e) = record { before = []; link = k; from = a; to = here; hop = rw (e .0) at h; total = omega (arith, ap (sum g) (e .1)) }
+    go (inr l) = record { before = k ∷ l .before; link = l .link; from = l .from; to = step h (l .to); hop = l .hop; total = omega (arith, l .total) }
+
+-- one picked route at most, whatever the delays
+pub picked-source : {g : Network} {delays : ℕ → Option ℕ} {s t : ℕ} {ks : List ℕ} → Picked g delays s ks t → t ≡ s → ks ≡ []
+picked-source source e = refl
+picked-source (onward n l p) e = absurd (n e)
+
+pub lowest-one : {g : Network} {delays : ℕ → Option ℕ} {j k u v t : ℕ} → Lowest g delays k u t → Lowest g delays j v t → (j ≡ k) × (v ≡ u)
+lowest-one {j = j} {k} {u} {v} l m =
+    let e : j ≡ k = omega (arith, l .lowest j v (m .tight), m .lowest k u (l .tight)) in
+    (e, same-start (rw e at (m .tight .hop)) (l .tight .hop))
+
+pub picked-one : {g : Network} {delays : ℕ → Option ℕ} {s t : ℕ} {ks ls : List ℕ} → Picked g delays s ks t → Picked g delays s ls t → ks ≡ ls
+picked-one source q = sym (picked-source q refl)
+picked-one {g} {delays} {s} (onward {k = k} {u = u} {ks = ks} n l p) q = go n l (λ ls r. picked-one {ls = ls} p r) q
+  where
+    go : {t : ℕ} {ls : List ℕ} → t ≢ s → Lowest g delays k u t → ((ls : List ℕ) → Picked g delays s ls u → ks ≡ ls) → Picked g delays s ls t → ks ++ (k ∷ []) ≡ ls
+    go n l later source = absurd (n refl)
+    go n l later (onward {ks = ls} m i q) =
+        let e = lowest-one l i in
+        rw (e .0, later ls (rw (e .1) at q))
+
+pub picked-route : {g : Network} {delays : ℕ → Option ℕ} {s t : ℕ} {ks : List ℕ} → Picked g delays s ks t → Route g s ks t
+picked-route source = here
+picked-route (onward n l p) = join (picked-route p) (link (l .tight .hop))
+
+module _ {g : Network} {s : ℕ} {delays : ℕ → Option ℕ} (settled : Settled g s delays) where
+  -- its sum is the delay of t
+  pub picked-sum : {t : ℕ} {ks : List ℕ} (d : ℕ) → Picked g delays s ks t → delays t ≡ Some d → sum g ks ≡ d
+  picked-sum d source e = least-one (least-self g s) (settled .least s d e)
+  picked-sum d (onward {k = k} {ks = ks} n l p) e =
+      let z : l .tight .at + delay g k ≡ d = cc (l .tight .after) in
+      omega (arith, z, join-sum g ks (k ∷ []), picked-sum (l .tight .at) p (l .tight .before))
+
+  -- where a route leads there is a delay
+  known : {u : ℕ} {ks : List ℕ} → Route g s ks u → (y : ℕ) × (delays u ≡ Some y)
+  known {u} {ks} p = go (delays u) refl
+    where
+      go : (o : Option ℕ) → delays u ≡ o → (y : ℕ) × (delays u ≡ Some y)
+      go (Some y) e = (y, e)
+      go None e = absurd (settled .none u e ks p)
+
+  -- some link into a station with a delay is tight: the last one of a least route
+  tight-into : (t d : ℕ) → t ≢ s → delays t ≡ Some d → (k u : ℕ) × Tight g delays k u t
+  tight-into t d n e = go (ends (r .route))
+    where
+      r : Attained g s t d
+      r = settled .least t d e .attained
+
+      go : ((s ≡ t) × (r .links ≡ [])) ⊎ Ends g s t (r .links) → (k u : ℕ) × Tight g delays k u t
+      go (inl z) = absurd (n (sym (z .0)))
+      go (inr l) =
+          let y = known (l .to) in
+          let m = settled .least (l .from) (y .0) (y .1) in
+          let over = settled .least t d e .least _ (join (m .attained .route) (link (l .hop))) in
+          let z : y .0 + delay g (l .link) ≡ d = omega (arith, over, join-sum g (m .attained .links) (l .link ∷ []), m .attained .total, m .least (l .before) (l .to), l .total, r .total) in
+          (l .link, l .from, record { hop = l .hop; at = y .0; before = y .1; after = e ∙ ap Some (sym z) })
+
+  module _ (proper : Proper g) where
+    tight? : (t k u : ℕ) → Dec (Tight g delays k u t)
+    tight? t k u = go (hop? g k u t) (delays u) refl (delays t) refl
+      where
+        sum? : Hop g k u t → (x y : ℕ) → delays u ≡ Some x → delays t ≡ Some y → Dec (y ≡ x + delay g k) → Dec (Tight g delays k u t)
+        sum? h x y e f (yes z) = yes (record { hop = h; at = x; before = e; after = f ∙ ap Some z })
+        sum? h x y e f (no n) = no (λ i. n (let p : x ≡ i .at = cc (i .before) in let q : y ≡ i .at + delay g k = cc (i .after) in omega arith))
+
+        go : Dec (Hop g k u t) → (o : Option ℕ) → delays u ≡ o → (q : Option ℕ) → delays t ≡ q → Dec (Tight g delays k u t)
+        go (no n) o e q f = no (λ i. n (i .hop))
+        go (yes h) None e q f = no (λ i. some-none (i .before) e)
+        go (yes h) (Some x) e None f = no (λ i. some-none (i .after) f)
+        go (yes h) (Some x) e (Some y) f = sum? h x y e f (ℕ-discrete y (x + delay g k))
+
+    lowest-into : (t d : ℕ) → t ≢ s → delays t ≡ Some d → (k u : ℕ) × Lowest g delays k u t
+    lowest-into t d n e =
+        let i = tight-into t d n e in
+        let f = first-of Leads leads? (length (g .rows)) (i .0) (i .2 .hop .listed) (leads (i .0) (i .1) (i .2)) in
+        (f .at, f .has .at, record { tight = f .has .has; lowest = λ j v o. elim (decLt j (f .at)) [ yes l ↦ absurd (f .before j l (leads j v o)) | no m ↦ omega arith ] })
+      where
+        Leads : ℕ → Type 0
+        Leads k = First (λ u. Tight g delays k u t) (g .stations)
+
+        leads? : (k : ℕ) → Dec (Leads k)
+        leads? k = first? (λ u. Tight g delays k u t) (tight? t k) (g .stations)
+
+        leads : (k u : ℕ) → Tight g delays k u t → Leads k
+        leads k u o = first-of (λ u. Tight g delays k u t) (tight? t k) (g .stations) u (hop-stations proper (o .hop) .0) o
+
+    picked-step : (t d : ℕ) → delays t ≡ Some d → ((u y : ℕ) → y < d → delays u ≡ Some y → (ks : List ℕ) × Picked g delays s ks u) → (ks : List ℕ) × Picked g delays s ks t
+    picked-step t d e later = go (ℕ-discrete t s)
+      where
+        go : Dec (t ≡ s) → (ks : List ℕ) × Picked g delays s ks t
+        go (yes z) = ([], rw z source)
+        go (no n) =
+            let (k, u, l) = lowest-into t d n e in
+            let z : l .tight .at + delay g k ≡ d = cc (l .tight .after) in
+            let p = later u (l .tight .at) (omega (arith, z, hop-delay proper (l .tight .hop))) (l .tight .before) in
+            (p .0 ++ (k ∷ []), onward n l (p .1))
+
+    -- the delays fall on the way back, so it ends
+    picked-within : (most t d : ℕ) → d ≤ most → delays t ≡ Some d → (ks : List ℕ) × Picked g delays s ks t
+    picked-within zero t d h e = picked-step t d e (λ u y l f. absurd (omega arith))
+    picked-within (suc most) t d h e = picked-step t d e (λ u y l f. picked-within most u y (omega arith) f)
+
+    pub picked-exists : (t d : ℕ) → delays t ≡ Some d → (ks : List ℕ) × Picked g delays s ks t
+    picked-exists t d e = picked-within d t d (omega arith) e
+
+    -- with fewer links than there are stations
+    pub picked-few : {t : ℕ} {ks : List ℕ} (d : ℕ) → s < g .stations → Picked g delays s ks t → delays t ≡ Some d → length ks < g .stations
+    picked-few {t} d l p e = least-few proper l (settled .least t d e) (picked-route p) (picked-sum d p e)

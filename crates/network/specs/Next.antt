@@ -1,0 +1,38 @@
+-- What a walk from a source knows in its midst, and which station it may visit next. (The field calls such a walk Dijkstra's algorithm, and
+-- this rule its relaxation by buckets.)
+use mathlib.Core.Logic.{_⊎_}
+use mathlib.Core.List.{List}
+use Prim.Native.Nat.{ℕ, _+_, _/_, _≤_, _^_}
+use Rattle.network.specs.Network.{Network, Hop, Route, Attained, Least, Under, delay, sum}
+
+-- `final w d`: the station w has been visited, and d is its delay; `tentative u y`: y is the best that is known of u so far
+pub record Known (g : Network) (s : ℕ) (final tentative : ℕ → ℕ → Type 0) : Type 0 where
+  -- the delay of a visited station is the least
+  pub exact : (w d : ℕ) → final w d → Least g s w d
+  -- a tentative delay is the sum of some route
+  pub found : (u y : ℕ) → tentative u y → Attained g s u y
+  -- each link out of a visited station has been looked at: it leads to a visited station, or to one with a delay that is no greater than over it
+  pub relaxed : (w d k u : ℕ) → final w d → Hop g k w u → ((e : ℕ) × final u e) ⊎ ((y : ℕ) × tentative u y × (y ≤ d + delay g k))
+  -- the source is visited, or known to be at 0
+  pub start : ((d : ℕ) × final s d) ⊎ tentative s 0
+
+-- at a level at which no route joins u and v, x is in no later bucket than y
+pub record Bucketed (g : Network) (u v x y : ℕ) : Type 0 where
+  pub level : ℕ
+  pub apart : ¬ Under g level u v
+  pub bucket : x / 2 ^ level ≤ y / 2 ^ level
+
+-- v, at x so far, may be visited next: no station has a smaller tentative delay, unless by less than a bucket of the level that keeps the two apart
+pub record Next (g : Network) (final tentative : ℕ → ℕ → Type 0) (v x : ℕ) : Type 0 where
+  pub unvisited : (d : ℕ) → ¬ final v d
+  pub known : tentative v x
+  pub first : (u y : ℕ) → tentative u y → (x ≤ y) ⊎ Bucketed g u v x y
+
+-- from a station that is known and not visited a route leads on to v, and with its tentative delay takes x at most
+pub record Passes (g : Network) (tentative : ℕ → ℕ → Type 0) (v x : ℕ) : Type 0 where
+  pub by : ℕ
+  pub at : ℕ
+  pub known : tentative by at
+  pub rest : List ℕ
+  pub on : Route g by rest v
+  pub within : at + sum g rest ≤ x
