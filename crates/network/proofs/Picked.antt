@@ -8,6 +8,7 @@ use native.Mathlib.Decide.{ℕ-discrete, decLt}
 use lib.ListN.{length}
 use Rattle.std.specs.declared.option.Option.{Option}
 use Rattle.std.specs.declared.option.Option.the-variants.{Some, None}
+use Rattle.std.proofs.shelf.Lists.{length-push, same-from-push}
 use Rattle.network.specs.Network.{Network, Proper, Hop, Route, here, step, NoRoute, Attained, Least, delay, sum}
 use Rattle.network.specs.Picked.{Settled, Tight, Lowest, Picked, source, onward}
 use Rattle.network.proofs.Routes.{join, join-sum, link, same-start, hop-stations, hop-delay}
@@ -25,15 +26,19 @@ pub record Ends (g : Network) (s t : ℕ) (ks : List ℕ) : Type 0 where
   pub from : ℕ
   pub to : Route g s before from
   pub hop : Hop g link from t
-  pub total : sum g ks ≡ sum g before + delay g link
+  pub list : ks ≡ before ++ (link ∷ [])
 
 pub ends : {g : Network} {s t : ℕ} {ks : List ℕ} → Route g s ks t → ((s ≡ t) × (ks ≡ [])) ⊎ Ends g s t ks
 ends here = inl (refl, refl)
 ends {g} {t = t} (step {a = a} {b = b} {k = k} {ks = ks} h p) = inr (go (ends p))
   where
     go : ((b ≡ t) × (ks ≡ [])) ⊎ Ends g b t ks → Ends g a t (k ∷ ks)
-    go (inl e) = record { before = []; link = k; from = a; to = here; hop = rw (e .0) at h; total = omega (arith, ap (sum g) (e .1)) }
-    go (inr l) = record { before = k ∷ l .before; link = l .link; from = l .from; to = step h (l .to); hop = l .hop; total = omega (arith, l .total) }
+    go (inl e) = record { before = []; link = k; from = a; to = here; hop = rw (e .0) at h; list = ap (λ ls. k ∷ ls) (e .1) }
+    go (inr l) = record { before = k ∷ l .before; link = l .link; from = l .from; to = step h (l .to); hop = l .hop; list = ap (λ ls. k ∷ ls) (l .list) }
+
+-- no list with a last element is empty
+no-last : (ks : List ℕ) (k : ℕ) → ks ++ (k ∷ []) ≡ [] → ⊥
+no-last ks k e = omega (arith, ap length e, length-push ks k)
 
 -- one picked route at most, whatever the delays
 pub picked-source : {g : Network} {delays : ℕ → Option ℕ} {s t : ℕ} {ks : List ℕ} → Picked g delays s ks t → t ≡ s → ks ≡ []
@@ -59,6 +64,11 @@ pub picked-route : {g : Network} {delays : ℕ → Option ℕ} {s t : ℕ} {ks :
 picked-route source = here
 picked-route (onward n l p) = join (picked-route p) (link (l .tight .hop))
 
+-- its last link is the lowest into t
+pub picked-last : {g : Network} {delays : ℕ → Option ℕ} {s t : ℕ} {ls : List ℕ} (ks : List ℕ) (k : ℕ) → Picked g delays s ls t → ls ≡ ks ++ (k ∷ []) → (u : ℕ) × Lowest g delays k u t
+picked-last ks k source e = absurd (no-last ks k (sym e))
+picked-last ks k (onward {k = j} {u = u} {ks = ls} n l p) e = (u, rw (same-from-push ls ks j k e .1) at l)
+
 module _ {g : Network} {s : ℕ} {delays : ℕ → Option ℕ} (settled : Settled g s delays) where
   -- its sum is the delay of t
   pub picked-sum : {t : ℕ} {ks : List ℕ} (d : ℕ) → Picked g delays s ks t → delays t ≡ Some d → sum g ks ≡ d
@@ -75,7 +85,17 @@ module _ {g : Network} {s : ℕ} {delays : ℕ → Option ℕ} (settled : Settle
       go (Some y) e = (y, e)
       go None e = absurd (settled .none u e ks p)
 
-  -- some link into a station with a delay is tight: the last one of a least route
+  -- the last link of a least route is tight
+  tight-last : {t d : ℕ} {ks : List ℕ} → delays t ≡ Some d → sum g ks ≡ d → (l : Ends g s t ks) → Tight g delays (l .link) (l .from) t
+  tight-last {t} {d} e f l =
+      let y = known (l .to) in
+      let m = settled .least (l .from) (y .0) (y .1) in
+      let over = settled .least t d e .least _ (join (m .attained .route) (link (l .hop))) in
+      let total = ap (sum g) (l .list) in
+      let z : y .0 + delay g (l .link) ≡ d =
+      omega (arith, over, total, join-sum g (m .attained .links) (l .link ∷ []), join-sum g (l .before) (l .link ∷ []), m .attained .total, m .least (l .before) (l .to)) in
+      record { hop = l .hop; at = y .0; before = y .1; after = e ∙ ap Some (sym z) }
+
   tight-into : (t d : ℕ) → t ≢ s → delays t ≡ Some d → (k u : ℕ) × Tight g delays k u t
   tight-into t d n e = go (ends (r .route))
     where
@@ -84,12 +104,16 @@ module _ {g : Network} {s : ℕ} {delays : ℕ → Option ℕ} (settled : Settle
 
       go : ((s ≡ t) × (r .links ≡ [])) ⊎ Ends g s t (r .links) → (k u : ℕ) × Tight g delays k u t
       go (inl z) = absurd (n (sym (z .0)))
-      go (inr l) =
-          let y = known (l .to) in
-          let m = settled .least (l .from) (y .0) (y .1) in
-          let over = settled .least t d e .least _ (join (m .attained .route) (link (l .hop))) in
-          let z : y .0 + delay g (l .link) ≡ d = omega (arith, over, join-sum g (m .attained .links) (l .link ∷ []), m .attained .total, m .least (l .before) (l .to), l .total, r .total) in
-          (l .link, l .from, record { hop = l .hop; at = y .0; before = y .1; after = e ∙ ap Some (sym z) })
+      go (inr l) = (l .link, l .from, tight-last e (r .total) l)
+
+  -- so no least route to t ends in a link with a lower number than the picked one
+  pub picked-lowest :
+      {t : ℕ} (d : ℕ) (ks ls : List ℕ) (k j : ℕ) → Picked g delays s (ks ++ (k ∷ [])) t → delays t ≡ Some d → Route g s (ls ++ (j ∷ [])) t → sum g (ls ++ (j ∷ [])) ≡ d → k ≤ j
+  picked-lowest {t} d ks ls k j p e q f = go (picked-last ks k p refl) (ends q)
+    where
+      go : (u : ℕ) × Lowest g delays k u t → ((s ≡ t) × (ls ++ (j ∷ []) ≡ [])) ⊎ Ends g s t (ls ++ (j ∷ [])) → k ≤ j
+      go l (inl z) = absurd (no-last ls j (z .1))
+      go l (inr i) = omega (arith, l .1 .lowest (i .link) (i .from) (tight-last e f i), same-from-push ls (i .before) j (i .link) (i .list) .1)
 
   module _ (proper : Proper g) where
     tight? : (t k u : ℕ) → Dec (Tight g delays k u t)

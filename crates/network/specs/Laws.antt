@@ -111,6 +111,10 @@ pub record Picked-route-stands : Type 0 where
   -- it is a route in service, with that delay as its sum, of fewer links than there are stations
   pub route : (g : Network) (delays : ℕ → Option ℕ) (s t d : ℕ) (ks : List ℕ) → Settled g s delays → Picked g delays s ks t → delays t ≡ Some d → Route g s ks t × (sum g ks ≡ d)
   pub few : (g : Network) (delays : ℕ → Option ℕ) (s t d : ℕ) (ks : List ℕ) → Proper g → s < g .stations → Settled g s delays → Picked g delays s ks t → delays t ≡ Some d → length ks < g .stations
+  -- and of all least routes to t none ends in a link with a lower number
+  pub lowest :
+      (g : Network) (delays : ℕ → Option ℕ) (s t d : ℕ) (ks ls : List ℕ) (k j : ℕ) → Settled g s delays → Picked g delays s (ks ++ (k ∷ [])) t → delays t ≡ Some d
+      → Route g s (ls ++ (j ∷ [])) t → sum g (ls ++ (j ∷ [])) ≡ d → k ≤ j
 
 -- a station has the delay that the function gives it
 abbrev pub At : (ℕ → Option ℕ) → ℕ → ℕ → Type 0
