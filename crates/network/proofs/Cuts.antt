@@ -7,9 +7,9 @@ use native.Mathlib.Omega.{arith}
 use native.Mathlib.Nat.{mul-le-mul-right}
 use lib.ListN.{length}
 use Rattle.network.specs.Lists.{Among, Inside, Distinct}
-use Rattle.network.specs.Network.{Network, Proper, Hop, Route, here, step, Least, delay, sum}
+use Rattle.network.specs.Network.{Network, Proper, Hop, Route, here, step, Least, Joined, delay, sum}
 use Rattle.network.proofs.Routes.{same-ends, hop-stations, hop-delay, sum-bound}
-use Rattle.network.proofs.Lists.{among, pigeonhole}
+use Rattle.network.proofs.Lists.{among, each-among, once, pigeonhole}
 
 -- a route that comes by the stations us, by none of them twice
 pub data Tour (g : Network) : ℕ → List ℕ → List ℕ → ℕ → Type 0 where
@@ -141,3 +141,9 @@ module _ {g : Network} (proper : Proper g) where
       go : {a b : ℕ} {ks : List ℕ} → Least g a b d → Route g a ks b → sum g ks ≡ d → d ≤ n * most
       go h here e = omega arith
       go h (step i p) e = short h i (step i p) e
+
+-- stations that links out of ls join are no further apart than all of ls together
+pub least-drawn : {g : Network} {a b d : ℕ} (ls : List ℕ) → Joined g (λ k. Among k ls) a b → Least g a b d → d ≤ sum g ls
+least-drawn {g} ls j h =
+    let t = tour-of (j .route) in
+    omega (arith, once g (t .links) ls (tour-once (t .tour)) (λ k m. each-among (j .each) k (t .inside k m)) .0, h .least (t .links) (tour-route (t .tour)))

@@ -37,6 +37,14 @@ joined-transitive h k = record { links = h .links ++ k .links; route = join (h .
 pub joined-map : {g : Network} {such other : ℕ → Type 0} {a b : ℕ} → ((k : ℕ) → such k → other k) → Joined g such a b → Joined g other a b
 joined-map f h = record { links = h .links; route = h .route; each = each-map f (h .each) }
 
+-- where other links join the ends of each such link, they join what such links join
+pub joined-through : {g : Network} {such other : ℕ → Type 0} {a b : ℕ} → ((k c d : ℕ) → Hop g k c d → such k → Joined g other c d) → Joined g such a b → Joined g other a b
+joined-through {g} {such} {other} f h = go (h .route) (h .each)
+  where
+    go : {a b : ℕ} {ks : List ℕ} → Route g a ks b → Each such ks → Joined g other a b
+    go here e = joined-self _
+    go (step h p) (and s e) = joined-transitive (f _ _ _ h s) (go p e)
+
 pub small-grows : {g : Network} {i j : ℕ} → i ≤ j → (k : ℕ) → Small g i k → Small g j k
 small-grows l k s = record { under = omega (arith, pow-mono l, s .under) }
 

@@ -6,9 +6,9 @@ use Prim.Native.Nat.{ℕ, suc, _+_, _*_, _/_, _≤_, _<_, _^_}
 use native.Mathlib.Omega.{arith}
 use native.Mathlib.Nat.{lt-div-mul-add, div-mul-le-self, mul-le-mul-right, div-eq-of-lt}
 use lib.Pow.{pow-pos}
-use Rattle.network.specs.Network.{Network, Hop, Route, here, step, NoRoute, Least, Under, Joint, delay, sum}
-use Rattle.network.specs.Next.{Known, Bucketed, Next, Passes}
-use Rattle.network.proofs.Leasts.{least-le, attained-link}
+use Rattle.network.specs.Network.{Network, Hop, Route, here, step, NoRoute, Attained, Least, Under, Joint, delay, sum}
+use Rattle.network.specs.Next.{Known, Bucketed, Next, Visited, Passes}
+use Rattle.network.proofs.Leasts.{least-le, attained-self, attained-link}
 use Rattle.network.proofs.Levels.{apart}
 use Rattle.network.proofs.Groups.{joint-apart, below-pow}
 
@@ -67,3 +67,47 @@ module _ {g : Network} {s : ℕ} {final tentative : ℕ → ℕ → Type 0} (kno
   -- where no station is known and not visited, every station with a route has been visited
   pub all-visited : ((u y : ℕ) → ¬ tentative u y) → {v : ℕ} {ks : List ℕ} → Route g s ks v → (d : ℕ) × final v d
   all-visited n p = elim (passes p) [ inl f ↦ f | inr r ↦ absurd (n (r .by) (r .at) (r .known)) ]
+
+  -- a visit keeps what a walk knows
+  module _ {v x : ℕ} {final′ tentative′ : ℕ → ℕ → Type 0} (next : Next g final tentative v x) (visit : Visited g v x final tentative final′ tentative′) where
+    found-after : (u y : ℕ) → tentative u y ⊎ ((k : ℕ) × Hop g k v u × (y ≡ x + delay g k)) → Attained g s u y
+    found-after u y (inl t) = knows .found u y t
+    found-after u y (inr l) = rw (l .2) (attained-link (next-least next .attained) (l .1))
+
+    relaxed-after : (w d k u : ℕ) → Hop g k w u → final w d ⊎ ((w ≡ v) × (d ≡ x)) → ((e : ℕ) × final′ u e) ⊎ ((y : ℕ) × tentative′ u y × (y ≤ d + delay g k))
+    relaxed-after w d k u h (inr e) = rw (e .1) (visit .looked k u (rw (e .0) at h))
+    relaxed-after w d k u h (inl f) = go (knows .relaxed w d k u f h)
+      where
+        lower : (y : ℕ) → y ≤ d + delay g k → ((e : ℕ) × final′ u e) ⊎ ((z : ℕ) × tentative′ u z × (z ≤ y)) → ((e : ℕ) × final′ u e) ⊎ ((z : ℕ) × tentative′ u z × (z ≤ d + delay g k))
+        lower y l (inl e) = inl e
+        lower y l (inr t) = inr (t .0, t .1, omega (arith, t .2))
+
+        go : ((e : ℕ) × final u e) ⊎ ((y : ℕ) × tentative u y × (y ≤ d + delay g k)) → ((e : ℕ) × final′ u e) ⊎ ((y : ℕ) × tentative′ u y × (y ≤ d + delay g k))
+        go (inl e) = inl (e .0, visit .still u (e .0) (e .1))
+        go (inr t) = lower (t .0) (t .2) (visit .kept u (t .0) (t .1))
+
+    start-after : ((d : ℕ) × final s d) ⊎ tentative s 0 → ((d : ℕ) × final′ s d) ⊎ tentative′ s 0
+    start-after (inl f) = inl (f .0, visit .still s (f .0) (f .1))
+    start-after (inr t) = elim (visit .kept s 0 t) [ inl f ↦ inl f | inr z ↦ inr (at-zero (z .0) (z .1) (z .2)) ]
+      where
+        at-zero : (z : ℕ) → tentative′ s z → z ≤ 0 → tentative′ s 0
+        at-zero z t l = let e : z ≡ 0 = omega arith in rw e at t
+
+    pub visit-keeps : Known g s final′ tentative′
+    visit-keeps =
+        record {
+          exact = λ w d f. elim (visit .only w d f) [ inl h ↦ knows .exact w d h | inr e ↦ rw (e .0, e .1) (next-least next) ];
+          found = λ u y t. found-after u y (visit .made u y t);
+          relaxed = λ w d k u f h. relaxed-after w d k u h (visit .only w d f);
+          start = start-after (knows .start);
+        }
+
+-- where a walk begins: nothing is visited, and only the source is known, at 0
+pub begin : (g : Network) (s : ℕ) {final tentative : ℕ → ℕ → Type 0} → ((w d : ℕ) → ¬ final w d) → tentative s 0 → ((u y : ℕ) → tentative u y → (u ≡ s) × (y ≡ 0)) → Known g s final tentative
+begin g s n t o =
+    record {
+      exact = λ w d f. absurd (n w d f);
+      found = λ u y k. rw (o u y k .0, o u y k .1) (attained-self g s);
+      relaxed = λ w d k u f. absurd (n w d f);
+      start = inr t;
+    }

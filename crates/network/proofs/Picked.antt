@@ -14,9 +14,9 @@ use Rattle.network.specs.Picked.{Settled, Tight, Lowest, Picked, source, onwar
 use Rattle.network.proofs.Routes.{join, join-sum, link, same-start, hop-stations, hop-delay}
 use Rattle.network.proofs.Leasts.{least-le, least-one, least-self, attained-link}
 use Rattle.network.proofs.Cuts.{least-few}
-use Rattle.network.proofs.Search.{First, first?, first-of, hop?}
+use Rattle.network.proofs.Search.{First, first?, first-of, hop?, told}
 
-some-none : {o : Option ℕ} {x : ℕ} → o ≡ Some x → o ≡ None → ⊥
+pub some-none : {o : Option ℕ} {x : ℕ} → o ≡ Some x → o ≡ None → ⊥
 some-none p q = let z : _≡_ {A = ℕ} 0 1 = cc in omega arith
 
 -- the last link of a route
@@ -39,6 +39,34 @@ ends {g} {t = t} (step {a = a} {b = b} {k = k} {ks = ks} h p) = inr (go (ends p)
 -- no list with a last element is empty
 no-last : (ks : List ℕ) (k : ℕ) → ks ++ (k ∷ []) ≡ [] → ⊥
 no-last ks k e = omega (arith, ap length e, length-push ks k)
+
+-- the least delays from s, told one by one
+pub settled-of : {g : Network} → Proper g → (s : ℕ) → (delays : ℕ → Option ℕ) × Settled g s delays
+settled-of {g} proper s = (λ t. of (told proper s t), record { least = λ t d. of-some (told proper s t); none = λ t. of-none (told proper s t) })
+  where
+    of : {t : ℕ} → NoRoute g s t ⊎ ((d : ℕ) × Least g s t d) → Option ℕ
+    of (inl n) = None
+    of (inr l) = Some (l .0)
+
+    of-some : {t d : ℕ} (r : NoRoute g s t ⊎ ((x : ℕ) × Least g s t x)) → of r ≡ Some d → Least g s t d
+    of-some (inl n) e = absurd (some-none e refl)
+    of-some {d = d} (inr l) e = let z : l .0 ≡ d = cc in rw z at (l .1)
+
+    of-none : {t : ℕ} (r : NoRoute g s t ⊎ ((x : ℕ) × Least g s t x)) → of r ≡ None → NoRoute g s t
+    of-none (inl n) e = n
+    of-none (inr l) e = absurd (some-none refl e)
+
+pub settled-one : {g : Network} {s : ℕ} {one other : ℕ → Option ℕ} → Settled g s one → Settled g s other → (t : ℕ) → one t ≡ other t
+settled-one {g} {s} {one} {other} p q t = go (one t) refl (other t) refl
+  where
+    clash : {x : ℕ} → Least g s t x → NoRoute g s t → ⊥
+    clash l n = n (l .attained .links) (l .attained .route)
+
+    go : (x : Option ℕ) → one t ≡ x → (y : Option ℕ) → other t ≡ y → one t ≡ other t
+    go None e None f = e ∙ sym f
+    go None e (Some y) f = absurd (clash (q .least t y f) (p .none t e))
+    go (Some x) e None f = absurd (clash (p .least t x e) (q .none t f))
+    go (Some x) e (Some y) f = e ∙ ap Some (least-one (p .least t x e) (q .least t y f)) ∙ sym f
 
 -- one picked route at most, whatever the delays
 pub picked-source : {g : Network} {delays : ℕ → Option ℕ} {s t : ℕ} {ks : List ℕ} → Picked g delays s ks t → t ≡ s → ks ≡ []
@@ -84,6 +112,9 @@ module _ {g : Network} {s : ℕ} {delays : ℕ → Option ℕ} (settled : Settle
       go : (o : Option ℕ) → delays u ≡ o → (y : ℕ) × (delays u ≡ Some y)
       go (Some y) e = (y, e)
       go None e = absurd (settled .none u e ks p)
+
+  pub settled-source : delays s ≡ Some 0
+  settled-source = let y = known here in y .1 ∙ ap Some (least-one (settled .least s (y .0) (y .1)) (least-self g s))
 
   -- the last link of a least route is tight
   tight-last : {t d : ℕ} {ks : List ℕ} → delays t ≡ Some d → sum g ks ≡ d → (l : Ends g s t ks) → Tight g delays (l .link) (l .from) t

@@ -2,15 +2,15 @@
 use mathlib.Core.Path.{_≡_}
 use mathlib.Core.List.{List, [], _∷_, _++_, reverse}
 use mathlib.Core.Bool.{Bool, true, false}
-use mathlib.Core.Logic.{_⊎_, _↔_}
+use mathlib.Core.Logic.{_⊎_, _↔_, _≢_}
 use Prim.Native.Nat.{ℕ, suc, _+_, _*_, _/_, _≤_, _<_, _^_}
 use lib.ListN.{length, getD}
 use Rattle.std.specs.declared.option.Option.{Option}
 use Rattle.std.specs.declared.option.Option.the-variants.{Some, None}
 use Rattle.network.specs.Levels.{IsLevel}
-use Rattle.network.specs.Lists.{Distinct, Inside}
-use Rattle.network.specs.Network.{Network, Proper, Route, NoRoute, Attained, Least, Each, Small, Under, Group, Joint, row, delay, sum}
-use Rattle.network.specs.Next.{Known, Bucketed, Next, Passes}
+use Rattle.network.specs.Lists.{Among, Distinct, Inside}
+use Rattle.network.specs.Network.{Network, Proper, Route, NoRoute, Attained, Least, Each, Joined, Small, Under, Group, Joint, row, delay, sum}
+use Rattle.network.specs.Next.{Known, Bucketed, Next, Visited, Passes}
 use Rattle.network.specs.Picked.{Settled, Picked}
 
 pub record Routes-join-and-turn : Type 0 where
@@ -27,6 +27,8 @@ pub record Routes-join-and-turn : Type 0 where
   pub link-sum : (g : Network) (k : ℕ) → sum g (k ∷ []) ≡ delay g k
   pub join-sum : (g : Network) (ks ls : List ℕ) → sum g (ks ++ ls) ≡ sum g ks + sum g ls
   pub turn-sum : (g : Network) (ks : List ℕ) → sum g (reverse ks) ≡ sum g ks
+  -- a delay is attained if it is the sum of a route, and only then
+  pub attained : (g : Network) (a b d : ℕ) → Attained g a b d ↔ ((ks : List ℕ) × Route g a ks b × (sum g ks ≡ d))
 
 pub record Least-delay-is-a-distance : Type 0 where
   pub unique : (g : Network) (a b x y : ℕ) → Least g a b x → Least g a b y → x ≡ y
@@ -55,6 +57,8 @@ pub record Links-once-sum-below : Type 0 where
   pub once : (g : Network) (ks ls : List ℕ) → Distinct ks → Inside ks ls → sum g ks ≤ sum g ls
   -- every route can be cut to such a one
   pub cut : (g : Network) (a b : ℕ) (ks : List ℕ) → Route g a ks b → Cut g a b ks
+  -- so stations that links out of ls join are no further apart than all of ls together
+  pub drawn : (g : Network) (a b d : ℕ) (ls : List ℕ) → Joined g (λ k. Among k ls) a b → Least g a b d → d ≤ sum g ls
 
 pub record Least-is-bounded : Type 0 where
   -- a route with the least sum has fewer links than there are stations
@@ -102,6 +106,12 @@ pub record Joint-level-is-a-distance : Type 0 where
   -- and 32 is the highest
   pub highest : (g : Network) (a b i : ℕ) → ((k : ℕ) → k < length (g .rows) → delay g k ≤ 4294967295) → Joint g a b i → i ≤ 32
 
+-- each source has its delays: one for every station that a route leads to
+pub record Each-source-has-its-delays : Type 0 where
+  pub exists : (g : Network) (s : ℕ) → Proper g → (delays : ℕ → Option ℕ) × Settled g s delays
+  pub unique : (g : Network) (s : ℕ) (one other : ℕ → Option ℕ) → Settled g s one → Settled g s other → (t : ℕ) → one t ≡ other t
+  pub source : (g : Network) (s : ℕ) (delays : ℕ → Option ℕ) → Settled g s delays → delays s ≡ Some 0
+
 pub record Picked-route-stands : Type 0 where
   -- there is one at most, whatever the delays
   pub unique : (g : Network) (delays : ℕ → Option ℕ) (s t : ℕ) (ks ls : List ℕ) → Picked g delays s ks t → Picked g delays s ls t → ks ≡ ls
@@ -121,6 +131,13 @@ abbrev pub At : (ℕ → Option ℕ) → ℕ → ℕ → Type 0
 At f u x = f u ≡ Some x
 
 pub record Next-visited-is-least : Type 0 where
+  -- a walk begins with the source at 0, and a visit keeps what it knows
+  pub begin :
+      (g : Network) (s : ℕ) (final tentative : ℕ → Option ℕ) → ((w : ℕ) → final w ≡ None) → tentative s ≡ Some 0 → ((u : ℕ) → u ≢ s → tentative u ≡ None)
+      → Known g s (At final) (At tentative)
+  pub visit :
+      (g : Network) (s v x : ℕ) (final tentative final′ tentative′ : ℕ → Option ℕ) → Known g s (At final) (At tentative) → Next g (At final) (At tentative) v x
+      → Visited g v x (At final) (At tentative) (At final′) (At tentative′) → Known g s (At final′) (At tentative′)
   -- the station that may be visited next is at its least delay
   pub least : (g : Network) (s : ℕ) (final tentative : ℕ → Option ℕ) (v x : ℕ) → Known g s (At final) (At tentative) → Next g (At final) (At tentative) v x → Least g s v x
   -- it holds its ground against a station at a joint level of i + 1 if it is in no later bucket of width 2 ^ i, and against one without a route to it

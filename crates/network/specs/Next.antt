@@ -1,5 +1,6 @@
 -- What a walk from a source knows in its midst, and which station it may visit next. (The field calls such a walk Dijkstra's algorithm, and
 -- this rule its relaxation by buckets.)
+use mathlib.Core.Path.{_≡_}
 use mathlib.Core.Logic.{_⊎_}
 use mathlib.Core.List.{List}
 use Prim.Native.Nat.{ℕ, _+_, _/_, _≤_, _^_}
@@ -27,6 +28,19 @@ pub record Next (g : Network) (final tentative : ℕ → ℕ → Type 0) (v x : 
   pub unvisited : (d : ℕ) → ¬ final v d
   pub known : tentative v x
   pub first : (u y : ℕ) → tentative u y → (x ≤ y) ⊎ Bucketed g u v x y
+
+-- v, at x, has been visited, and its links have been looked at: what was known before and what is known after
+pub record Visited (g : Network) (v x : ℕ) (final tentative final′ tentative′ : ℕ → ℕ → Type 0) : Type 0 where
+  -- v is final, and nothing else has become so
+  pub now : final′ v x
+  pub still : (w d : ℕ) → final w d → final′ w d
+  pub only : (w d : ℕ) → final′ w d → final w d ⊎ ((w ≡ v) × (d ≡ x))
+  -- each station that a link of v leads to is visited, or known no later than over it
+  pub looked : (k u : ℕ) → Hop g k v u → ((e : ℕ) × final′ u e) ⊎ ((y : ℕ) × tentative′ u y × (y ≤ x + delay g k))
+  -- what was known has stayed or been lowered, or is visited
+  pub kept : (u y : ℕ) → tentative u y → ((e : ℕ) × final′ u e) ⊎ ((z : ℕ) × tentative′ u z × (z ≤ y))
+  -- and a tentative delay is one from before, or comes over a link of v
+  pub made : (u y : ℕ) → tentative′ u y → tentative u y ⊎ ((k : ℕ) × Hop g k v u × (y ≡ x + delay g k))
 
 -- from a station that is known and not visited a route leads on to v, and with its tentative delay takes x at most
 pub record Passes (g : Network) (tentative : ℕ → ℕ → Type 0) (v x : ℕ) : Type 0 where

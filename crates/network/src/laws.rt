@@ -1,7 +1,7 @@
 //! The laws of the words of a network. A function here computes nothing: its contract is a group of theorems of
 //! specs/Laws.antt, and the crate is proved only with their proofs.
 
-ghost use Rattle.network.specs.Laws.{Routes-join-and-turn, Least-delay-is-a-distance, A-route-gives-a-least-one, Links-once-sum-below, Least-is-bounded, Under-is-an-equivalence, Apart-means-long, Stations-fall-into-groups, Joint-level-is-a-distance, Picked-route-stands, Next-visited-is-least};
+ghost use Rattle.network.specs.Laws.{Routes-join-and-turn, Least-delay-is-a-distance, A-route-gives-a-least-one, Links-once-sum-below, Least-is-bounded, Under-is-an-equivalence, Apart-means-long, Stations-fall-into-groups, Joint-level-is-a-distance, Each-source-has-its-delays, Picked-route-stands, Next-visited-is-least};
 
 /// Routes join and turn round, and their sums with them.
 pub fn routes_join_and_turn() -> u8
@@ -62,6 +62,13 @@ pub fn stations_fall_into_groups() -> u8
 /// The joint level of two stations is one number, 0 only for a station and itself.
 pub fn joint_level_is_a_distance() -> u8
     ensures { λ _. ⌜ Joint-level-is-a-distance ⌝ }
+{
+    0
+}
+
+/// The least delays from a source, none where no route leads, are one function of the stations.
+pub fn each_source_has_its_delays() -> u8
+    ensures { λ _. ⌜ Each-source-has-its-delays ⌝ }
 {
     0
 }

@@ -17,4 +17,5 @@ returns c =
       link-sum = λ g k. omega arith;
       join-sum = join-sum;
       turn-sum = turn-sum;
+      attained = λ g a b d. (λ r. (r .links, r .route, r .total), λ r. record { links = r .0; route = r .1; total = r .2 });
     }
