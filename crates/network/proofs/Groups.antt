@@ -14,7 +14,7 @@ use Rattle.std.proofs.shelf.Tests.{both-ways, and-parts, and-from, ltb-true, lt
 use Rattle.network.specs.declared.row.Row.{Row}
 use Rattle.network.specs.Network.{Network, Proper, Hop, Route, here, step, Each, none, and, Joined, Small, Under, Group, Joint, no-row, row, delay, sum}
 use Rattle.network.proofs.Routes.{each-hop, hop-delay, route-station}
-use Rattle.network.proofs.Levels.{joined-self, joined-symmetric, joined-transitive, under-grows, small-or-long, apart}
+use Rattle.network.proofs.Levels.{joined-self, joined-link, joined-symmetric, joined-transitive, under-grows, small-or-long, apart}
 use Rattle.network.proofs.Search.{told, first-of}
 
 -- the stations that links under 2 ^ i join with a
@@ -31,6 +31,11 @@ group-around g i a l =
 -- of two groups that share a station, that of the lower level lies in the other
 pub group-nested : {g : Network} {i j : ℕ} {inner outer : ℕ → Type 0} → i ≤ j → Group g i inner → Group g j outer → (a : ℕ) → inner a → outer a → (b : ℕ) → inner b → outer b
 group-nested l p q a m n b h = q .largest a b n (p .stations b h) (under-grows l (p .connected a b m h))
+
+-- a link that leads out of a group takes 2 ^ i or more
+pub group-cut : {g : Network} {i k a b : ℕ} {inside : ℕ → Type 0} → Group g i inside → Hop g k a b → b < g .stations → inside a → ¬ inside b → 2 ^ i ≤ delay g k
+group-cut {g} {i} {k} {a} {b} p h l m n =
+    elim (decLt (delay g k) (2 ^ i)) [ yes s ↦ absurd (n (p .largest a b m l (joined-link h (record { under = s })))) | no s ↦ omega arith ]
 
 pub joint-one : {g : Network} {a b i j : ℕ} → Joint g a b i → Joint g a b j → i ≡ j
 joint-one {i = i} {j = j} p q = omega (arith, p .smallest j (q .joined), q .smallest i (p .joined))

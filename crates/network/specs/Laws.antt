@@ -9,8 +9,8 @@ use Rattle.std.specs.declared.option.Option.{Option}
 use Rattle.std.specs.declared.option.Option.the-variants.{Some, None}
 use Rattle.network.specs.Levels.{IsLevel}
 use Rattle.network.specs.Lists.{Among, Distinct, Inside}
-use Rattle.network.specs.Network.{Network, Proper, Route, NoRoute, Attained, Least, Each, Joined, Small, Under, Group, Joint, row, delay, sum}
-use Rattle.network.specs.Next.{Known, Bucketed, Next, Visited, Passes}
+use Rattle.network.specs.Network.{Network, Proper, Hop, Route, NoRoute, Attained, Least, Each, Joined, Small, Under, Group, Joint, row, delay, sum}
+use Rattle.network.specs.Next.{Done, Known, Bucketed, Next, Visited, Passes}
 use Rattle.network.specs.Picked.{Settled, Picked}
 
 pub record Routes-join-and-turn : Type 0 where
@@ -93,6 +93,8 @@ pub record Stations-fall-into-groups : Type 0 where
   -- two groups of one level that share a station are the same, and of two levels the lower lies in the higher
   pub same : (g : Network) (i : ℕ) (one other : ℕ → Bool) → GroupOf g i one → GroupOf g i other → (a : ℕ) → one a ≡ true → other a ≡ true → (b : ℕ) → one b ≡ other b
   pub nested : (g : Network) (i j : ℕ) (low high : ℕ → Bool) → i ≤ j → GroupOf g i low → GroupOf g j high → (a : ℕ) → low a ≡ true → high a ≡ true → (b : ℕ) → low b ≡ true → high b ≡ true
+  -- a link that leads out of a group takes 2 ^ i or more
+  pub cut : (g : Network) (i k a b : ℕ) (test : ℕ → Bool) → GroupOf g i test → Proper g → Hop g k a b → test a ≡ true → test b ≡ false → 2 ^ i ≤ delay g k
 
 pub record Joint-level-is-a-distance : Type 0 where
   pub unique : (g : Network) (a b i j : ℕ) → Joint g a b i → Joint g a b j → i ≡ j
@@ -146,8 +148,8 @@ pub record Next-visited-is-least : Type 0 where
   -- a route from the source leads to a visited station, or comes by one with a tentative delay
   pub passes :
       (g : Network) (s : ℕ) (final tentative : ℕ → Option ℕ) (v : ℕ) (ks : List ℕ) → Known g s (At final) (At tentative) → Route g s ks v
-      → ((d : ℕ) × At final v d) ⊎ Passes g (At tentative) v (sum g ks)
+      → Done (At final) v ⊎ Passes g (At tentative) v (sum g ks)
   -- so where none is left, every station with a route has been visited
   pub all :
       (g : Network) (s : ℕ) (final tentative : ℕ → Option ℕ) (v : ℕ) (ks : List ℕ) → Known g s (At final) (At tentative) → ((u y : ℕ) → ¬ At tentative u y)
-      → Route g s ks v → (d : ℕ) × At final v d
+      → Route g s ks v → Done (At final) v

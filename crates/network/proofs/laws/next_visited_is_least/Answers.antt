@@ -19,7 +19,7 @@ only-source {s} {tentative} o t u y e = go (ℕ-discrete u s)
 pub returns : need.returns
 returns c =
     record {
-      begin = λ g s final tentative n t o. begin g s (λ w d f. some-none f (n w)) t (only-source o t);
+      begin = λ g s final tentative n t o. begin g s (λ w f. some-none (f .1) (n w)) t (only-source o t);
       visit = λ g s v x final tentative final′ tentative′ knows. visit-keeps knows;
       least = λ g s final tentative v x knows. next-least knows;
       joint = λ g u v x y i. bucketed-joint;
