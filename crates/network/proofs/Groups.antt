@@ -29,8 +29,9 @@ group-around g i a l =
     }
 
 -- of two groups that share a station, that of the lower level lies in the other
-pub group-nested : {g : Network} {i j : ℕ} {inner outer : ℕ → Type 0} → i ≤ j → Group g i inner → Group g j outer → (a : ℕ) → inner a → outer a → (b : ℕ) → inner b → outer b
-group-nested l p q a m n b h = q .largest a b n (p .stations b h) (under-grows l (p .connected a b m h))
+pub group-nested :
+    {g : Network} {i j a : ℕ} {inner outer : ℕ → Type 0} → i ≤ j → Group g i inner → Group g j outer → inner a → outer a → (b : ℕ) → inner b → outer b
+group-nested {a = a} l p q m n b h = q .largest a b n (p .stations b h) (under-grows l (p .connected a b m h))
 
 -- a link that leads out of a group takes 2 ^ i or more
 pub group-cut : {g : Network} {i k a b : ℕ} {inside : ℕ → Type 0} → Group g i inside → Hop g k a b → b < g .stations → inside a → ¬ inside b → 2 ^ i ≤ delay g k

@@ -99,11 +99,11 @@ picked-last ks k (onward {k = j} {u = u} {ks = ls} n l p) e = (u, rw (same-from-
 
 module _ {g : Network} {s : ℕ} {delays : ℕ → Option ℕ} (settled : Settled g s delays) where
   -- its sum is the delay of t
-  pub picked-sum : {t : ℕ} {ks : List ℕ} (d : ℕ) → Picked g delays s ks t → delays t ≡ Some d → sum g ks ≡ d
-  picked-sum d source e = least-one (least-self g s) (settled .least s d e)
-  picked-sum d (onward {k = k} {ks = ks} n l p) e =
+  pub picked-sum : {t : ℕ} {ks : List ℕ} (d : ℕ) → delays t ≡ Some d → Picked g delays s ks t → sum g ks ≡ d
+  picked-sum d e source = least-one (least-self g s) (settled .least s d e)
+  picked-sum d e (onward {k = k} {ks = ks} n l p) =
       let z : l .tight .at + delay g k ≡ d = cc (l .tight .after) in
-      omega (arith, z, join-sum g ks (k ∷ []), picked-sum (l .tight .at) p (l .tight .before))
+      omega (arith, z, join-sum g ks (k ∷ []), picked-sum (l .tight .at) (l .tight .before) p)
 
   -- where a route leads there is a delay
   known : {u : ℕ} {ks : List ℕ} → Route g s ks u → (y : ℕ) × (delays u ≡ Some y)
@@ -139,8 +139,9 @@ module _ {g : Network} {s : ℕ} {delays : ℕ → Option ℕ} (settled : Settle
 
   -- so no least route to t ends in a link with a lower number than the picked one
   pub picked-lowest :
-      {t : ℕ} (d : ℕ) (ks ls : List ℕ) (k j : ℕ) → Picked g delays s (ks ++ (k ∷ [])) t → delays t ≡ Some d → Route g s (ls ++ (j ∷ [])) t → sum g (ls ++ (j ∷ [])) ≡ d → k ≤ j
-  picked-lowest {t} d ks ls k j p e q f = go (picked-last ks k p refl) (ends q)
+      {t : ℕ} (d k j : ℕ) (ks ls : List ℕ) → delays t ≡ Some d → Picked g delays s (ks ++ (k ∷ [])) t
+      → Route g s (ls ++ (j ∷ [])) t → sum g (ls ++ (j ∷ [])) ≡ d → k ≤ j
+  picked-lowest {t} d k j ks ls e p q f = go (picked-last ks k p refl) (ends q)
     where
       go : (u : ℕ) × Lowest g delays k u t → ((s ≡ t) × (ls ++ (j ∷ []) ≡ [])) ⊎ Ends g s t (ls ++ (j ∷ [])) → k ≤ j
       go l (inl z) = absurd (no-last ls j (z .1))
@@ -195,5 +196,5 @@ module _ {g : Network} {s : ℕ} {delays : ℕ → Option ℕ} (settled : Settle
     picked-exists t d e = picked-within d t d (omega arith) e
 
     -- with fewer links than there are stations
-    pub picked-few : {t : ℕ} {ks : List ℕ} (d : ℕ) → s < g .stations → Picked g delays s ks t → delays t ≡ Some d → length ks < g .stations
-    picked-few {t} d l p e = least-few proper l (settled .least t d e) (picked-route p) (picked-sum d p e)
+    pub picked-few : {t : ℕ} {ks : List ℕ} (d : ℕ) → s < g .stations → delays t ≡ Some d → Picked g delays s ks t → length ks < g .stations
+    picked-few {t} d l e p = least-few proper l (settled .least t d e) (picked-route p) (picked-sum d e p)

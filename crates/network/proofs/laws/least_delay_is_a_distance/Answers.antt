@@ -2,11 +2,11 @@ use Rattle.network.proofs.Leasts.{least-one, least-self, attained-zero, least-
 use Rattle.network.proofs.laws.least_delay_is_a_distance.Needs as need
 
 pub returns : need.returns
-returns c =
+returns c g =
     record {
-      unique = λ g a b x y. least-one;
-      self = least-self;
-      positive = λ g a b proper h. attained-zero proper (h .attained);
-      symmetric = λ g a b x. least-symmetric;
-      triangle = λ g a b c x y z. triangle;
+      unique = λ a b x y. least-one;
+      self = least-self g;
+      positive = λ a b proper h. attained-zero proper (h .attained);
+      symmetric = λ a b x. least-symmetric;
+      triangle = λ a b c x y z. triangle;
     }

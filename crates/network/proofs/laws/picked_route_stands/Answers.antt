@@ -2,12 +2,12 @@ use Rattle.network.proofs.Picked.{picked-one, picked-exists, picked-route, pic
 use Rattle.network.proofs.laws.picked_route_stands.Needs as need
 
 pub returns : need.returns
-returns c =
+returns c g delays s =
     record {
-      unique = λ g delays s t ks ls. picked-one;
-      exists = λ g delays s t d proper settled. picked-exists settled proper t d;
-      none = λ g delays s t ks settled e p. settled .none t e ks (picked-route p);
-      route = λ g delays s t d ks settled p e. (picked-route p, picked-sum settled d p e);
-      few = λ g delays s t d ks proper l settled. picked-few settled proper d l;
-      lowest = λ g delays s t d ks ls k j settled. picked-lowest settled d ks ls k j;
+      unique = λ t ks ls. picked-one;
+      exists = λ t d proper settled. picked-exists settled proper t d;
+      none = λ t ks settled e p. settled .none t e ks (picked-route p);
+      route = λ t d ks settled e p. (picked-route p, picked-sum settled d e p);
+      few = λ t d ks proper l settled. picked-few settled proper d l;
+      lowest = λ t d k j ks ls settled. picked-lowest settled d k j ks ls;
     }
