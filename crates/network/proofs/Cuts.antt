@@ -1,5 +1,5 @@
 -- Every route can be cut to one that comes by no station twice: over some of the same links, none of them twice.
-use mathlib.Core.Path.{_≡_, refl, sym, subst}
+use mathlib.Core.Path.{_≡_, refl}
 use mathlib.Core.List.{List, [], _∷_}
 use mathlib.Core.Logic.{_⊎_, inl, inr}
 use Prim.Native.Nat.{ℕ, suc, _+_, _*_, _≤_, _<_}
@@ -73,42 +73,51 @@ pub record Toured (g : Network) (a b : ℕ) (ks : List ℕ) : Type 0 where
   pub shorter : sum g links ≤ sum g ks
   pub spared : Proper g → length ks + sum g links ≤ length links + sum g ks
 
+all-of-it : {g : Network} {a b : ℕ} {ks us : List ℕ} → Tour g a ks us b → Toured g a b ks
+all-of-it {ks = ks} {us = us} t = record { links = ks; stops = us; tour = t; inside = λ k i. i; shorter = omega arith; spared = λ p. omega arith }
+
+-- a hop before a route changes nothing for a tour that leaves it out
+left-out : {g : Network} {a b c k x : ℕ} {ks : List ℕ} → Hop g k a b → Toured g x c ks → Toured g x c (k ∷ ks)
+left-out h r =
+    record {
+      links = r .links;
+      stops = r .stops;
+      tour = r .tour;
+      inside = λ j i. inr (r .inside j i);
+      shorter = omega (arith, r .shorter);
+      spared = λ p. omega (arith, r .spared p, hop-delay p h);
+    }
+
 -- the rest of a tour from one of its stations on
 pub from-stop : {g : Network} {a b u : ℕ} {ks us : List ℕ} → Tour g a ks us b → Among u us → Toured g u b ks
-from-stop {g} {b = b} {u = u} stay m = elim m [ inl e ↦ rw e (record { links = []; stops = b ∷ []; tour = stay; inside = λ k i. i; shorter = omega arith; spared = λ p. omega arith }) | inr i ↦ elim i [ ] ]
+from-stop stay m = elim m [ inl e ↦ rw e (all-of-it stay) | inr i ↦ elim i [ ] ]
 from-stop {g} {b = c} {u = u} (go {a = a} {k = k} {ks = ks} {us = us} h n t) m = pick m (from-stop t)
   where
     pick : (u ≡ a) ⊎ Among u us → (Among u us → Toured g u c ks) → Toured g u c (k ∷ ks)
-    pick (inl e) later = rw e (record { links = k ∷ ks; stops = a ∷ us; tour = go h n t; inside = λ j i. i; shorter = omega arith; spared = λ p. omega arith })
-    pick (inr i) later =
-        let r = later i in
-        record {
-          links = r .links;
-          stops = r .stops;
-          tour = r .tour;
-          inside = λ j i. inr (r .inside j i);
-          shorter = omega (arith, r .shorter);
-          spared = λ p. omega (arith, r .spared p, hop-delay p h);
-        }
+    pick (inl e) later = rw e (all-of-it (go h n t))
+    pick (inr i) later = left-out h (later i)
+
+-- a tour out of a tour out of a route
+tour-again : {g : Network} {a b c : ℕ} {ks : List ℕ} (r : Toured g b c ks) → Toured g a c (r .links) → Toured g a c ks
+tour-again r s =
+    record {
+      links = s .links;
+      stops = s .stops;
+      tour = s .tour;
+      inside = λ j i. r .inside j (s .inside j i);
+      shorter = omega (arith, s .shorter, r .shorter);
+      spared = λ p. omega (arith, s .spared p, r .spared p);
+    }
 
 pub tour-of : {g : Network} {a b : ℕ} {ks : List ℕ} → Route g a ks b → Toured g a b ks
-tour-of {a = a} here = record { links = []; stops = a ∷ []; tour = stay; inside = λ k i. i; shorter = omega arith; spared = λ p. omega arith }
+tour-of here = all-of-it stay
 tour-of {g} {b = c} (step {a = a} {b = b} {k = k} {ks = ks} h p) = pick (tour-of p)
   where
     pick : Toured g b c ks → Toured g a c (k ∷ ks)
     pick r = meet (among a (r .stops))
       where
         meet : Dec (Among a (r .stops)) → Toured g a c (k ∷ ks)
-        meet (yes m) =
-            let s = from-stop (r .tour) m in
-            record {
-              links = s .links;
-              stops = s .stops;
-              tour = s .tour;
-              inside = λ j i. inr (r .inside j (s .inside j i));
-              shorter = omega (arith, s .shorter, r .shorter);
-              spared = λ p. omega (arith, s .spared p, r .spared p, hop-delay p h);
-            }
+        meet (yes m) = left-out h (tour-again r (from-stop (r .tour) m))
         meet (no n) =
             record {
               links = k ∷ r .links;

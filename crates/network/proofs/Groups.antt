@@ -1,9 +1,9 @@
 -- Groups and joint levels.
-use mathlib.Core.Path.{_≡_, refl, sym}
+use mathlib.Core.Path.{_≡_, refl}
 use mathlib.Core.List.{List, [], _∷_}
 use mathlib.Core.Bool.{Bool, true, false, _&&_}
 use mathlib.Core.Logic.{_⊎_, inl, inr}
-use Prim.Native.Nat.{ℕ, zero, suc, _+_, _*_, _≤_, _<_, _^_}
+use Prim.Native.Nat.{ℕ, zero, suc, _≤_, _<_, _^_}
 use native.Mathlib.Omega.{arith}
 use native.Mathlib.Decide.{decLt}
 use native.Mathlib.Nat.{two-pow-succ}
@@ -12,9 +12,9 @@ use lib.ListN.{length, getD}
 use lib.Pow.{pow-pos}
 use Rattle.std.proofs.shelf.Tests.{both-ways, and-parts, and-from, ltb-true, lt-ltb, cases-lt}
 use Rattle.network.specs.declared.row.Row.{Row}
-use Rattle.network.specs.Network.{Network, Proper, Hop, Route, here, step, Each, none, and, Joined, Small, Under, Group, Joint, no-row, row, delay, sum}
-use Rattle.network.proofs.Routes.{each-hop, hop-delay, route-station}
-use Rattle.network.proofs.Levels.{joined-self, joined-link, joined-symmetric, joined-transitive, under-grows, small-or-long, apart}
+use Rattle.network.specs.Network.{Network, Proper, Hop, Route, here, step, NoRoute, Least, Each, and, Small, Under, Group, Joint, no-row, delay, sum}
+use Rattle.network.proofs.Routes.{each-hop, hop-delay}
+use Rattle.network.proofs.Levels.{joined-self, joined-link, joined-symmetric, joined-transitive, under-grows, small-or-long}
 use Rattle.network.proofs.Search.{told, first-of}
 
 -- the stations that links under 2 ^ i join with a
@@ -70,7 +70,8 @@ joint-apart {i = i} p u = omega (arith, p .smallest i u)
 -- links of level 32 at most: so is the joint level
 pub joint-top : {g : Network} {a b i : ℕ} (top : ℕ) → ((k : ℕ) → k < length (g .rows) → delay g k < 2 ^ top) → Joint g a b i → i ≤ top
 joint-top top f p =
-    p .smallest top (record { links = p .joined .links; route = p .joined .route; each = each-hop (λ k c d h. record { under = f k (h .listed) }) (p .joined .route) })
+    let r = p .joined .route in
+    p .smallest top (record { links = p .joined .links; route = r; each = each-hop (λ k c d h. record { under = f k (h .listed) }) r })
 
 -- which links stay in service where those of 2 ^ i or more are taken out
 abbrev keep : ℕ → List Row → List Bool → List Bool
@@ -96,22 +97,28 @@ narrow g i = record { stations = g .stations; rows = g .rows; service = keep i (
 
 narrow-route : {g : Network} {i a b : ℕ} {ks : List ℕ} → Route g a ks b → Each (Small g i) ks → Route (narrow g i) a ks b
 narrow-route here e = here
-narrow-route {g} {i} (step {k = k} h p) (and s e) = step (record { listed = h .listed; up = keeps i (g .rows) (g .service) k (h .listed) (h .up) (s .under); ends = h .ends }) (narrow-route p e)
-
-widen-hop : (g : Network) (i : ℕ) {k a b : ℕ} → Hop (narrow g i) k a b → Hop g k a b
-widen-hop g i {k} h = record { listed = h .listed; up = kept i (g .rows) (g .service) k (h .up) .0; ends = h .ends }
+narrow-route {g} {i} (step {k = k} h p) (and s e) =
+    let up = keeps i (g .rows) (g .service) k (h .listed) (h .up) (s .under) in
+    step (record { listed = h .listed; up = up; ends = h .ends }) (narrow-route p e)
 
 widen-route : (g : Network) (i : ℕ) {a b : ℕ} {ks : List ℕ} → Route (narrow g i) a ks b → Route g a ks b
 widen-route g i here = here
-widen-route g i (step h p) = step (widen-hop g i h) (widen-route g i p)
+widen-route g i (step {k = k} h p) =
+    let up = kept i (g .rows) (g .service) k (h .up) .0 in
+    step (record { listed = h .listed; up = up; ends = h .ends }) (widen-route g i p)
+
+narrow-small : (g : Network) (i : ℕ) {a b : ℕ} {ks : List ℕ} → Route (narrow g i) a ks b → Each (Small g i) ks
+narrow-small g i p = each-hop (λ k c d h. record { under = kept i (g .rows) (g .service) k (h .up) .1 }) p
 
 -- so it can be told whether links under 2 ^ i join two stations
 pub under? : {g : Network} → Proper g → (i a b : ℕ) → Dec (Under g i a b)
-under? {g} proper i a b =
-    elim (told {g = narrow g i} proper a b) [
-      | inl n ↦ no (λ u. n (u .links) (narrow-route (u .route) (u .each)))
-      | inr l ↦ (let r = l .1 .attained in yes (record { links = r .links; route = widen-route g i (r .route); each = each-hop (λ k c d h. record { under = kept i (g .rows) (g .service) k (h .up) .1 }) (r .route) }))
-    ]
+under? {g} proper i a b = go (told {g = narrow g i} proper a b)
+  where
+    go : NoRoute (narrow g i) a b ⊎ ((d : ℕ) × Least (narrow g i) a b d) → Dec (Under g i a b)
+    go (inl n) = no (λ u. n (u .links) (narrow-route (u .route) (u .each)))
+    go (inr l) =
+        let r = l .1 .attained in
+        yes (record { links = r .links; route = widen-route g i (r .route); each = narrow-small g i (r .route) })
 
 pub below-pow : (n : ℕ) → n < 2 ^ n
 below-pow zero = omega arith

@@ -1,7 +1,7 @@
 -- The least delay is a distance.
-use mathlib.Core.Path.{_≡_, refl, sym}
+use mathlib.Core.Path.{_≡_, refl}
 use mathlib.Core.List.{List, [], _∷_, _++_, reverse}
-use Prim.Native.Nat.{ℕ, _+_, _≤_, _<_}
+use Prim.Native.Nat.{ℕ, _+_, _≤_}
 use native.Mathlib.Omega.{arith}
 use Rattle.network.specs.Network.{Network, Proper, Hop, Route, here, step, Attained, Least, delay, sum}
 use Rattle.network.proofs.Routes.{join, join-sum, turn, turn-sum, link, hop-delay}

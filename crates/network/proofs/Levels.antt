@@ -1,8 +1,7 @@
 -- Stations that such links join; "under 2 ^ i" is the case in which such links are the small ones.
-use mathlib.Core.Path.{_≡_}
 use mathlib.Core.List.{List, [], _∷_, _++_, reverse, reverseAux}
 use mathlib.Core.Logic.{_⊎_, inl, inr}
-use Prim.Native.Nat.{ℕ, _+_, _-_, _≤_, _<_, _^_}
+use Prim.Native.Nat.{ℕ, _-_, _≤_, _<_, _^_}
 use native.Mathlib.Omega.{arith}
 use native.Mathlib.Decide.{decLt}
 use lib.Pow.{pow-mono}
@@ -38,7 +37,8 @@ pub joined-map : {g : Network} {such other : ℕ → Type 0} {a b : ℕ} → ((k
 joined-map f h = record { links = h .links; route = h .route; each = each-map f (h .each) }
 
 -- where other links join the ends of each such link, they join what such links join
-pub joined-through : {g : Network} {such other : ℕ → Type 0} {a b : ℕ} → ((k c d : ℕ) → Hop g k c d → such k → Joined g other c d) → Joined g such a b → Joined g other a b
+pub joined-through :
+    {g : Network} {such other : ℕ → Type 0} {a b : ℕ} → ((k c d : ℕ) → Hop g k c d → such k → Joined g other c d) → Joined g such a b → Joined g other a b
 joined-through {g} {such} {other} f h = go (h .route) (h .each)
   where
     go : {a b : ℕ} {ks : List ℕ} → Route g a ks b → Each such ks → Joined g other a b

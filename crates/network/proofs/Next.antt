@@ -1,12 +1,12 @@
 -- The station that may be visited next is at its least delay.
-use mathlib.Core.Path.{_≡_, refl}
+use mathlib.Core.Path.{_≡_}
 use mathlib.Core.List.{List, [], _∷_}
 use mathlib.Core.Logic.{_⊎_, inl, inr}
-use Prim.Native.Nat.{ℕ, suc, _+_, _*_, _/_, _≤_, _<_, _^_}
+use Prim.Native.Nat.{ℕ, suc, _+_, _/_, _≤_, _<_, _^_}
 use native.Mathlib.Omega.{arith}
 use native.Mathlib.Nat.{lt-div-mul-add, div-mul-le-self, mul-le-mul-right, div-eq-of-lt}
 use lib.Pow.{pow-pos}
-use Rattle.network.specs.Network.{Network, Hop, Route, here, step, NoRoute, Attained, Least, Under, Joint, delay, sum}
+use Rattle.network.specs.Network.{Network, Hop, Route, here, step, NoRoute, Attained, Least, Joint, delay, sum}
 use Rattle.network.specs.Next.{Done, Near, Known, Bucketed, Next, Visited, Passes}
 use Rattle.network.proofs.Leasts.{least-le, attained-self, attained-link}
 use Rattle.network.proofs.Levels.{apart}

@@ -93,7 +93,9 @@ picked-route source = here
 picked-route (onward n l p) = join (picked-route p) (link (l .tight .hop))
 
 -- its last link is the lowest into t
-pub picked-last : {g : Network} {delays : ℕ → Option ℕ} {s t : ℕ} {ls : List ℕ} (ks : List ℕ) (k : ℕ) → Picked g delays s ls t → ls ≡ ks ++ (k ∷ []) → (u : ℕ) × Lowest g delays k u t
+pub picked-last :
+    {g : Network} {delays : ℕ → Option ℕ} {s t : ℕ} {ls : List ℕ} (ks : List ℕ) (k : ℕ) → Picked g delays s ls t → ls ≡ ks ++ (k ∷ [])
+    → (u : ℕ) × Lowest g delays k u t
 picked-last ks k source e = absurd (no-last ks k (sym e))
 picked-last ks k (onward {k = j} {u = u} {ks = ls} n l p) e = (u, rw (same-from-push ls ks j k e .1) at l)
 
@@ -121,10 +123,9 @@ module _ {g : Network} {s : ℕ} {delays : ℕ → Option ℕ} (settled : Settle
   tight-last {t} {d} e f l =
       let y = known (l .to) in
       let m = settled .least (l .from) (y .0) (y .1) in
-      let over = settled .least t d e .least _ (join (m .attained .route) (link (l .hop))) in
-      let total = ap (sum g) (l .list) in
-      let z : y .0 + delay g (l .link) ≡ d =
-      omega (arith, over, total, join-sum g (m .attained .links) (l .link ∷ []), join-sum g (l .before) (l .link ∷ []), m .attained .total, m .least (l .before) (l .to)) in
+      let over = least-le (settled .least t d e) (attained-link (m .attained) (l .hop)) in
+      let before = m .least (l .before) (l .to) in
+      let z : y .0 + delay g (l .link) ≡ d = omega (arith, over, before, ap (sum g) (l .list), join-sum g (l .before) (l .link ∷ [])) in
       record { hop = l .hop; at = y .0; before = y .1; after = e ∙ ap Some (sym z) }
 
   tight-into : (t d : ℕ) → t ≢ s → delays t ≡ Some d → (k u : ℕ) × Tight g delays k u t
@@ -165,7 +166,9 @@ module _ {g : Network} {s : ℕ} {delays : ℕ → Option ℕ} (settled : Settle
     lowest-into t d n e =
         let i = tight-into t d n e in
         let f = first-of Leads leads? (length (g .rows)) (i .0) (i .2 .hop .listed) (leads (i .0) (i .1) (i .2)) in
-        (f .at, f .has .at, record { tight = f .has .has; lowest = λ j v o. elim (decLt j (f .at)) [ yes l ↦ absurd (f .before j l (leads j v o)) | no m ↦ omega arith ] })
+        let lowest : (j v : ℕ) → Tight g delays j v t → f .at ≤ j =
+        λ j v o. elim (decLt j (f .at)) [ yes l ↦ absurd (f .before j l (leads j v o)) | no m ↦ omega arith ] in
+        (f .at, f .has .at, record { tight = f .has .has; lowest = lowest })
       where
         Leads : ℕ → Type 0
         Leads k = First (λ u. Tight g delays k u t) (g .stations)
@@ -176,7 +179,9 @@ module _ {g : Network} {s : ℕ} {delays : ℕ → Option ℕ} (settled : Settle
         leads : (k u : ℕ) → Tight g delays k u t → Leads k
         leads k u o = first-of (λ u. Tight g delays k u t) (tight? t k) (g .stations) u (hop-stations proper (o .hop) .0) o
 
-    picked-step : (t d : ℕ) → delays t ≡ Some d → ((u y : ℕ) → y < d → delays u ≡ Some y → (ks : List ℕ) × Picked g delays s ks u) → (ks : List ℕ) × Picked g delays s ks t
+    picked-step :
+        (t d : ℕ) → delays t ≡ Some d → ((u y : ℕ) → y < d → delays u ≡ Some y → (ks : List ℕ) × Picked g delays s ks u)
+        → (ks : List ℕ) × Picked g delays s ks t
     picked-step t d e later = go (ℕ-discrete t s)
       where
         go : Dec (t ≡ s) → (ks : List ℕ) × Picked g delays s ks t

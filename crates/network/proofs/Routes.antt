@@ -1,13 +1,12 @@
 -- Routes joined and turned round, with their sums, and what is true of each link of a route.
-use mathlib.Core.Path.{_≡_, refl}
+use mathlib.Core.Path.{_≡_}
 use mathlib.Core.List.{List, [], _∷_, _++_, reverse, reverseAux}
-use mathlib.Core.Bool.{true, false}
 use mathlib.Core.Logic.{_⊎_, inl, inr}
 use Prim.Native.Nat.{ℕ, _+_, _*_, _≤_, _<_}
 use native.Mathlib.Omega.{arith}
 use native.Mathlib.Nat.{suc-mul}
-use lib.ListN.{length, getD}
-use Rattle.network.specs.Network.{Network, Proper, Hop, Route, here, step, Each, none, and, row, delay, sum}
+use lib.ListN.{length}
+use Rattle.network.specs.Network.{Network, Proper, Hop, Route, here, step, Each, none, and, delay, sum}
 
 pub join : {g : Network} {a b c : ℕ} {ks ls : List ℕ} → Route g a ks b → Route g b ls c → Route g a (ks ++ ls) c
 join here q = q

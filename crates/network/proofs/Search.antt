@@ -1,14 +1,13 @@
 -- Searches that end: whether a link leads from one station to another, whether a delay is attained, and so the least delay itself.
-use mathlib.Core.Path.{_≡_, refl, sym, _∙_}
+use mathlib.Core.Path.{_≡_, refl, sym}
 use mathlib.Core.List.{List, [], _∷_}
 use mathlib.Core.Bool.{Bool, true, false}
 use mathlib.Core.Logic.{_⊎_, inl, inr}
-use Prim.Native.Nat.{ℕ, zero, suc, _+_, _-_, _≤_, _<_}
+use Prim.Native.Nat.{ℕ, zero, suc, _-_, _≤_, _<_}
 use native.Mathlib.Omega.{arith}
 use native.Mathlib.Decide.{ℕ-discrete, decLe, decLt}
 use lib.ListN.{length, getD}
 use Rattle.std.proofs.shelf.Tests.{both-ways}
-use Rattle.network.specs.Lists.{Among}
 use Rattle.network.specs.Network.{Network, Proper, Hop, Route, here, step, NoRoute, Attained, Least, row, delay, sum}
 use Rattle.network.proofs.Routes.{each-hop, hop-stations, hop-delay}
 use Rattle.network.proofs.Lists.{once, below, among-below, each-among}
@@ -104,7 +103,8 @@ module _ {g : Network} (proper : Proper g) where
       none-left n m here e s = n (sym e, sym s)
       none-left n m (step {b = u} {k = k} {ks = ks} h p) e s =
           let o : Onward g a b d k u = record { hop = rw e at h; fits = omega arith; rest = record { links = ks; route = p; total = omega arith } } in
-          m (first-of (Leads g a b d) leads? (length (g .rows)) k (h .listed) (first-of (Onward g a b d k) (λ v. onward? a b d k v (later v)) (g .stations) u (hop-stations proper h .1) o))
+          let f = first-of (Onward g a b d k) (λ v. onward? a b d k v (later v)) (g .stations) u (hop-stations proper h .1) o in
+          m (first-of (Leads g a b d) leads? (length (g .rows)) k (h .listed) f)
 
       go : Dec ((a ≡ b) × (d ≡ 0)) → Dec (First (Leads g a b d) (length (g .rows))) → Dec (Attained g a b d)
       go (yes e) f = yes (rw (e .0, e .1) (record { links = []; route = here; total = refl }))
@@ -131,10 +131,22 @@ module _ {g : Network} (proper : Proper g) where
 
   -- no route, or a least delay: every route can be cut to one that takes no longer than all links together
   pub told : (a b : ℕ) → NoRoute g a b ⊎ ((x : ℕ) × Least g a b x)
-  told a b = elim (first (Attained g a b) (attained? a b) (suc (sum g (below (length (g .rows)))))) [ inl f ↦ inr (f .at, least-first f) | inr f ↦ inl (λ ks p. f _ (short p) (record { links = tour-of p .links; route = tour-route (tour-of p .tour); total = refl })) ]
+  told a b = go (first (Attained g a b) (attained? a b) (suc (sum g all)))
     where
-      short : {ks : List ℕ} (p : Route g a ks b) → sum g (tour-of p .links) < suc (sum g (below (length (g .rows))))
+      all : List ℕ
+      all = below (length (g .rows))
+
+      short : {ks : List ℕ} (p : Route g a ks b) → sum g (tour-of p .links) ≤ sum g all
       short p =
           let t = tour-of p in
           let listed = each-among (each-hop {such = λ k. k < length (g .rows)} (λ k c d h. h .listed) (tour-route (t .tour))) in
-          omega (arith, once g (t .links) (below (length (g .rows))) (tour-once (t .tour)) (λ k m. among-below k (length (g .rows)) (listed k m)) .0)
+          once g (t .links) all (tour-once (t .tour)) (λ k m. among-below k (length (g .rows)) (listed k m)) .0
+
+      none : ((d : ℕ) → d < suc (sum g all) → ¬ Attained g a b d) → NoRoute g a b
+      none f ks p =
+          let t = tour-of p in
+          f (sum g (t .links)) (omega (arith, short p)) (record { links = t .links; route = tour-route (t .tour); total = refl })
+
+      go : First (Attained g a b) (suc (sum g all)) ⊎ ((d : ℕ) → d < suc (sum g all) → ¬ Attained g a b d) → NoRoute g a b ⊎ ((x : ℕ) × Least g a b x)
+      go (inl f) = inr (f .at, least-first f)
+      go (inr f) = inl (none f)
