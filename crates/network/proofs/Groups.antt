@@ -15,7 +15,7 @@ use Rattle.network.specs.declared.row.Row.{Row}
 use Rattle.network.specs.Network.{Network, Proper, Hop, Route, here, step, NoRoute, Least, Each, and, Small, Under, Group, Joint, no-row, delay, sum}
 use Rattle.network.proofs.Routes.{each-hop, hop-delay}
 use Rattle.network.proofs.Levels.{joined-self, joined-link, joined-symmetric, joined-transitive, under-grows, small-or-long}
-use Rattle.network.proofs.Search.{told, first-of}
+use Rattle.network.proofs.Search.{told, first-of, first-least}
 
 -- the stations that links under 2 ^ i join with a
 pub group-around : (g : Network) (i a : ℕ) → a < g .stations → Group g i (λ b. (b < g .stations) × Under g i a b)
@@ -128,7 +128,7 @@ below-pow (suc n) = omega (arith, below-pow n, two-pow-succ n, pow-pos n)
 pub joint-of : {g : Network} {a b : ℕ} {ks : List ℕ} → Proper g → Route g a ks b → (i : ℕ) × Joint g a b i
 joint-of {g} {a} {b} {ks} proper p =
     let f = first-of (λ i. Under g i a b) (λ i. under? proper i a b) (suc (sum g ks)) (sum g ks) (omega arith) high in
-    (f .at, record { joined = f .has; smallest = λ j u. elim (decLt j (f .at)) [ yes l ↦ absurd (f .before j l u) | no n ↦ omega arith ] })
+    (f .at, record { joined = f .has; smallest = first-least f })
   where
     high : Under g (sum g ks) a b
     high =

@@ -7,3 +7,4 @@ pub mod Next
 pub mod Picked
 pub mod Routes
 pub mod Search
+pub mod Settled

@@ -4,69 +4,22 @@ use mathlib.Core.List.{List, [], _∷_, _++_}
 use mathlib.Core.Logic.{_⊎_, inl, inr, _≢_}
 use Prim.Native.Nat.{ℕ, zero, suc, _+_, _≤_, _<_}
 use native.Mathlib.Omega.{arith}
-use native.Mathlib.Decide.{ℕ-discrete, decLt}
+use native.Mathlib.Decide.{ℕ-discrete}
 use lib.ListN.{length}
 use Rattle.std.specs.declared.option.Option.{Option}
 use Rattle.std.specs.declared.option.Option.the-variants.{Some, None}
 use Rattle.std.proofs.shelf.Lists.{length-push, same-from-push}
-use Rattle.network.specs.Network.{Network, Proper, Hop, Route, here, step, NoRoute, Attained, Least, delay, sum}
+use Rattle.network.specs.Network.{Network, Proper, Hop, Route, here, Attained, delay, sum}
 use Rattle.network.specs.Picked.{Settled, Tight, Lowest, Picked, source, onward}
-use Rattle.network.proofs.Routes.{join, join-sum, link, same-start, hop-stations, hop-delay}
+use Rattle.network.proofs.Routes.{join, join-sum, link, LastHop, last-hop, same-start, hop-stations, hop-delay}
 use Rattle.network.proofs.Leasts.{least-le, least-one, least-self, attained-link}
 use Rattle.network.proofs.Cuts.{least-few}
-use Rattle.network.proofs.Search.{First, first?, first-of, hop?, told}
-
-pub some-none : {o : Option ℕ} {x : ℕ} → o ≡ Some x → o ≡ None → ⊥
-some-none p q = let z : _≡_ {A = ℕ} 0 1 = cc in omega arith
-
--- the last link of a route
-pub record Ends (g : Network) (s t : ℕ) (ks : List ℕ) : Type 0 where
-  pub before : List ℕ
-  pub link : ℕ
-  pub from : ℕ
-  pub to : Route g s before from
-  pub hop : Hop g link from t
-  pub list : ks ≡ before ++ (link ∷ [])
-
-pub ends : {g : Network} {s t : ℕ} {ks : List ℕ} → Route g s ks t → ((s ≡ t) × (ks ≡ [])) ⊎ Ends g s t ks
-ends here = inl (refl, refl)
-ends {g} {t = t} (step {a = a} {b = b} {k = k} {ks = ks} h p) = inr (go (ends p))
-  where
-    go : ((b ≡ t) × (ks ≡ [])) ⊎ Ends g b t ks → Ends g a t (k ∷ ks)
-    go (inl e) = record { before = []; link = k; from = a; to = here; hop = rw (e .0) at h; list = ap (λ ls. k ∷ ls) (e .1) }
-    go (inr l) = record { before = k ∷ l .before; link = l .link; from = l .from; to = step h (l .to); hop = l .hop; list = ap (λ ls. k ∷ ls) (l .list) }
+use Rattle.network.proofs.Search.{First, first?, first-of, first-least, hop?}
+use Rattle.network.proofs.Settled.{some-none, settled-known}
 
 -- no list with a last element is empty
 no-last : (ks : List ℕ) (k : ℕ) → ks ++ (k ∷ []) ≡ [] → ⊥
 no-last ks k e = omega (arith, ap length e, length-push ks k)
-
--- the least delays from s, told one by one
-pub settled-of : {g : Network} → Proper g → (s : ℕ) → (delays : ℕ → Option ℕ) × Settled g s delays
-settled-of {g} proper s = (λ t. of (told proper s t), record { least = λ t d. of-some (told proper s t); none = λ t. of-none (told proper s t) })
-  where
-    of : {t : ℕ} → NoRoute g s t ⊎ ((d : ℕ) × Least g s t d) → Option ℕ
-    of (inl n) = None
-    of (inr l) = Some (l .0)
-
-    of-some : {t d : ℕ} (r : NoRoute g s t ⊎ ((x : ℕ) × Least g s t x)) → of r ≡ Some d → Least g s t d
-    of-some (inl n) e = absurd (some-none e refl)
-    of-some {d = d} (inr l) e = let z : l .0 ≡ d = cc in rw z at (l .1)
-
-    of-none : {t : ℕ} (r : NoRoute g s t ⊎ ((x : ℕ) × Least g s t x)) → of r ≡ None → NoRoute g s t
-    of-none (inl n) e = n
-    of-none (inr l) e = absurd (some-none refl e)
-
-pub settled-one : {g : Network} {s : ℕ} {one other : ℕ → Option ℕ} → Settled g s one → Settled g s other → (t : ℕ) → one t ≡ other t
-settled-one {g} {s} {one} {other} p q t = go (one t) refl (other t) refl
-  where
-    clash : {x : ℕ} → Least g s t x → NoRoute g s t → ⊥
-    clash l n = n (l .attained .links) (l .attained .route)
-
-    go : (x : Option ℕ) → one t ≡ x → (y : Option ℕ) → other t ≡ y → one t ≡ other t
-    go None e None f = e ∙ sym f
-    go None e (Some y) f = absurd (clash (q .least t y f) (p .none t e))
-    go (Some x) e None f = absurd (clash (p .least t x e) (q .none t f))
-    go (Some x) e (Some y) f = e ∙ ap Some (least-one (p .least t x e) (q .least t y f)) ∙ sym f
 
 -- one picked route at most, whatever the delays
 pub picked-source : {g : Network} {delays : ℕ → Option ℕ} {s t : ℕ} {ks : List ℕ} → Picked g delays s ks t → t ≡ s → ks ≡ []
@@ -107,21 +60,10 @@ module _ {g : Network} {s : ℕ} {delays : ℕ → Option ℕ} (settled : Settle
       let z : l .tight .at + delay g k ≡ d = cc (l .tight .after) in
       omega (arith, z, join-sum g ks (k ∷ []), picked-sum (l .tight .at) (l .tight .before) p)
 
-  -- where a route leads there is a delay
-  known : {u : ℕ} {ks : List ℕ} → Route g s ks u → (y : ℕ) × (delays u ≡ Some y)
-  known {u} {ks} p = go (delays u) refl
-    where
-      go : (o : Option ℕ) → delays u ≡ o → (y : ℕ) × (delays u ≡ Some y)
-      go (Some y) e = (y, e)
-      go None e = absurd (settled .none u e ks p)
-
-  pub settled-source : delays s ≡ Some 0
-  settled-source = let y = known here in y .1 ∙ ap Some (least-one (settled .least s (y .0) (y .1)) (least-self g s))
-
   -- the last link of a least route is tight
-  tight-last : {t d : ℕ} {ks : List ℕ} → delays t ≡ Some d → sum g ks ≡ d → (l : Ends g s t ks) → Tight g delays (l .link) (l .from) t
+  tight-last : {t d : ℕ} {ks : List ℕ} → delays t ≡ Some d → sum g ks ≡ d → (l : LastHop g s t ks) → Tight g delays (l .link) (l .from) t
   tight-last {t} {d} e f l =
-      let y = known (l .to) in
+      let y = settled-known settled (l .to) in
       let m = settled .least (l .from) (y .0) (y .1) in
       let over = least-le (settled .least t d e) (attained-link (m .attained) (l .hop)) in
       let before = m .least (l .before) (l .to) in
@@ -129,12 +71,12 @@ module _ {g : Network} {s : ℕ} {delays : ℕ → Option ℕ} (settled : Settle
       record { hop = l .hop; at = y .0; before = y .1; after = e ∙ ap Some (sym z) }
 
   tight-into : (t d : ℕ) → t ≢ s → delays t ≡ Some d → (k u : ℕ) × Tight g delays k u t
-  tight-into t d n e = go (ends (r .route))
+  tight-into t d n e = go (last-hop (r .route))
     where
       r : Attained g s t d
       r = settled .least t d e .attained
 
-      go : ((s ≡ t) × (r .links ≡ [])) ⊎ Ends g s t (r .links) → (k u : ℕ) × Tight g delays k u t
+      go : ((s ≡ t) × (r .links ≡ [])) ⊎ LastHop g s t (r .links) → (k u : ℕ) × Tight g delays k u t
       go (inl z) = absurd (n (sym (z .0)))
       go (inr l) = (l .link, l .from, tight-last e (r .total) l)
 
@@ -142,9 +84,9 @@ module _ {g : Network} {s : ℕ} {delays : ℕ → Option ℕ} (settled : Settle
   pub picked-lowest :
       {t : ℕ} (d k j : ℕ) (ks ls : List ℕ) → delays t ≡ Some d → Picked g delays s (ks ++ (k ∷ [])) t
       → Route g s (ls ++ (j ∷ [])) t → sum g (ls ++ (j ∷ [])) ≡ d → k ≤ j
-  picked-lowest {t} d k j ks ls e p q f = go (picked-last ks k p refl) (ends q)
+  picked-lowest {t} d k j ks ls e p q f = go (picked-last ks k p refl) (last-hop q)
     where
-      go : (u : ℕ) × Lowest g delays k u t → ((s ≡ t) × (ls ++ (j ∷ []) ≡ [])) ⊎ Ends g s t (ls ++ (j ∷ [])) → k ≤ j
+      go : (u : ℕ) × Lowest g delays k u t → ((s ≡ t) × (ls ++ (j ∷ []) ≡ [])) ⊎ LastHop g s t (ls ++ (j ∷ [])) → k ≤ j
       go l (inl z) = absurd (no-last ls j (z .1))
       go l (inr i) = omega (arith, l .1 .lowest (i .link) (i .from) (tight-last e f i), same-from-push ls (i .before) j (i .link) (i .list) .1)
 
@@ -164,11 +106,9 @@ module _ {g : Network} {s : ℕ} {delays : ℕ → Option ℕ} (settled : Settle
 
     lowest-into : (t d : ℕ) → t ≢ s → delays t ≡ Some d → (k u : ℕ) × Lowest g delays k u t
     lowest-into t d n e =
-        let i = tight-into t d n e in
-        let f = first-of Leads leads? (length (g .rows)) (i .0) (i .2 .hop .listed) (leads (i .0) (i .1) (i .2)) in
-        let lowest : (j v : ℕ) → Tight g delays j v t → f .at ≤ j =
-        λ j v o. elim (decLt j (f .at)) [ yes l ↦ absurd (f .before j l (leads j v o)) | no m ↦ omega arith ] in
-        (f .at, f .has .at, record { tight = f .has .has; lowest = lowest })
+        let (k, u, i) = tight-into t d n e in
+        let f = first-of Leads leads? (length (g .rows)) k (i .hop .listed) (leads k u i) in
+        (f .at, f .has .at, record { tight = f .has .has; lowest = λ j v o. first-least f j (leads j v o) })
       where
         Leads : ℕ → Type 0
         Leads k = First (λ u. Tight g delays k u t) (g .stations)

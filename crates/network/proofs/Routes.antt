@@ -1,5 +1,5 @@
 -- Routes joined and turned round, with their sums, and what is true of each link of a route.
-use mathlib.Core.Path.{_≡_}
+use mathlib.Core.Path.{_≡_, refl, ap}
 use mathlib.Core.List.{List, [], _∷_, _++_, reverse, reverseAux}
 use mathlib.Core.Logic.{_⊎_, inl, inr}
 use Prim.Native.Nat.{ℕ, _+_, _*_, _≤_, _<_}
@@ -39,6 +39,24 @@ turn-sum g ks = omega (arith, turn-onto-sum g ks [])
 pub link : {g : Network} {k a b : ℕ} → Hop g k a b → Route g a (k ∷ []) b
 link h = step h here
 
+-- the last link of a route
+pub record LastHop (g : Network) (a b : ℕ) (ks : List ℕ) : Type 0 where
+  pub before : List ℕ
+  pub link : ℕ
+  pub from : ℕ
+  pub to : Route g a before from
+  pub hop : Hop g link from b
+  pub list : ks ≡ before ++ (link ∷ [])
+
+pub last-hop : {g : Network} {a b : ℕ} {ks : List ℕ} → Route g a ks b → ((a ≡ b) × (ks ≡ [])) ⊎ LastHop g a b ks
+last-hop here = inl (refl, refl)
+last-hop {g} {b = c} (step {a = a} {b = b} {k = k} {ks = ks} h p) = inr (go (last-hop p))
+  where
+    go : ((b ≡ c) × (ks ≡ [])) ⊎ LastHop g b c ks → LastHop g a c (k ∷ ks)
+    go (inl e) = record { before = []; link = k; from = a; to = here; hop = rw (e .0) at h; list = ap (λ ls. k ∷ ls) (e .1) }
+    go (inr l) =
+        record { before = k ∷ l .before; link = l .link; from = l .from; to = step h (l .to); hop = l .hop; list = ap (λ ls. k ∷ ls) (l .list) }
+
 -- what every hop has, every link of a route has
 pub each-hop : {g : Network} {a b : ℕ} {ks : List ℕ} {such : ℕ → Type 0} → ((k c d : ℕ) → Hop g k c d → such k) → Route g a ks b → Each such ks
 each-hop f here = none
@@ -48,7 +66,8 @@ each-hop f (step h p) = and (f _ _ _ h) (each-hop f p)
 pub same-ends : {g : Network} {k a b c d : ℕ} → Hop g k a b → Hop g k c d → ((c ≡ a) × (d ≡ b)) ⊎ ((c ≡ b) × (d ≡ a))
 same-ends h i = go (h .ends) (i .ends)
   where
-    go : {x y a b c d : ℕ} → ((x ≡ a) × (y ≡ b)) ⊎ ((x ≡ b) × (y ≡ a)) → ((x ≡ c) × (y ≡ d)) ⊎ ((x ≡ d) × (y ≡ c)) → ((c ≡ a) × (d ≡ b)) ⊎ ((c ≡ b) × (d ≡ a))
+    go :
+        {x y a b c d : ℕ} → ((x ≡ a) × (y ≡ b)) ⊎ ((x ≡ b) × (y ≡ a)) → ((x ≡ c) × (y ≡ d)) ⊎ ((x ≡ d) × (y ≡ c)) → ((c ≡ a) × (d ≡ b)) ⊎ ((c ≡ b) × (d ≡ a))
     go (inl p) (inl q) = inl (cc, cc)
     go (inl p) (inr q) = inr (cc, cc)
     go (inr p) (inl q) = inr (cc, cc)
@@ -72,6 +91,7 @@ module _ {g : Network} (proper : Proper g) where
   route-station l (step h p) = route-station (hop-stations h .1) p
 
 -- no link longer than most, no route of so many links longer than so many times most
-pub sum-bound : {g : Network} {a b : ℕ} {ks : List ℕ} (most : ℕ) → ((k : ℕ) → k < length (g .rows) → delay g k ≤ most) → Route g a ks b → sum g ks ≤ length ks * most
+pub sum-bound :
+    {g : Network} {a b : ℕ} {ks : List ℕ} (most : ℕ) → ((k : ℕ) → k < length (g .rows) → delay g k ≤ most) → Route g a ks b → sum g ks ≤ length ks * most
 sum-bound most f here = omega arith
 sum-bound most f (step {k = k} {ks = ks} h p) = omega (arith, f k (h .listed), sum-bound most f p, suc-mul (length ks) most)

@@ -49,6 +49,9 @@ first? P tell n = elim (first P tell n) [ inl f ↦ yes f | inr f ↦ no (λ s. 
 pub first-of : (P : ℕ → Type 0) → ((k : ℕ) → Dec (P k)) → (n k : ℕ) → k < n → P k → First P n
 first-of P tell n k h p = elim (first P tell n) [ inl f ↦ f | inr f ↦ absurd (f k h p) ]
 
+pub first-least : {P : ℕ → Type 0} {n : ℕ} (f : First P n) (k : ℕ) → P k → f .at ≤ k
+first-least f k p = elim (decLt k (f .at)) [ yes l ↦ absurd (f .before k l p) | no m ↦ omega arith ]
+
 -- the link k has the ends a and b
 abbrev Ends : Network → ℕ → ℕ → ℕ → Type 0
 Ends g k a b = ((row g k .from ≡ a) × (row g k .to ≡ b)) ⊎ ((row g k .from ≡ b) × (row g k .to ≡ a))
@@ -120,11 +123,7 @@ module _ {g : Network} (proper : Proper g) where
 
   -- the first delay that is attained is the least
   pub least-first : {a b n : ℕ} (f : First (Attained g a b) n) → Least g a b (f .at)
-  least-first {a} {b} f = record { attained = f .has; least = λ ks p. go ks p (decLt (sum g ks) (f .at)) }
-    where
-      go : (ks : List ℕ) → Route g a ks b → Dec (sum g ks < f .at) → f .at ≤ sum g ks
-      go ks p (yes l) = absurd (f .before (sum g ks) l (record { links = ks; route = p; total = refl }))
-      go ks p (no n) = omega arith
+  least-first f = record { attained = f .has; least = λ ks p. first-least f (sum g ks) (record { links = ks; route = p; total = refl }) }
 
   pub least-of : {a b d : ℕ} → Attained g a b d → (x : ℕ) × Least g a b x
   least-of {a} {b} {d} r = let f = first-of (Attained g a b) (attained? a b) (suc d) d (omega arith) r in (f .at, least-first f)

@@ -1,4 +1,4 @@
-use Rattle.network.proofs.Picked.{settled-of, settled-one, settled-source}
+use Rattle.network.proofs.Settled.{settled-of, settled-one, settled-source}
 use Rattle.network.proofs.laws.each_source_has_its_delays.Needs as need
 
 pub returns : need.returns

@@ -4,7 +4,7 @@ use Prim.Native.Nat.{ℕ}
 use native.Mathlib.Decide.{ℕ-discrete}
 use Rattle.std.specs.declared.option.Option.{Option}
 use Rattle.std.specs.declared.option.Option.the-variants.{Some, None}
-use Rattle.network.proofs.Picked.{some-none}
+use Rattle.network.proofs.Settled.{some-none}
 use Rattle.network.proofs.Next.{begin, visit-keeps, next-least, bucketed-joint, bucketed-no-route, passes, all-visited}
 use Rattle.network.proofs.laws.next_visited_is_least.Needs as need
 
