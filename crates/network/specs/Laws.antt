@@ -60,13 +60,15 @@ pub record Links-once-sum-below (g : Network) : Type 0 where
   -- so stations that links out of ls join are no further apart than all of ls together
   pub drawn : (a b d : ℕ) (ls : List ℕ) → Joined g (λ k. Among k ls) a b → Least g a b d → d ≤ sum g ls
 
+-- no link takes more than a link record can say
+abbrev pub Bounded : Network → Type 0
+Bounded g = (k : ℕ) → k < length (g .rows) → delay g k ≤ 4294967295
+
 pub record Least-is-bounded (g : Network) : Type 0 where
   -- a route with the least sum has fewer links than there are stations
   pub few : (a b d : ℕ) (ks : List ℕ) → Proper g → a < g .stations → Least g a b d → Route g a ks b → sum g ks ≡ d → length ks < g .stations
-  -- so among 512 stations at most, over links of 4,294,967,295 at most, no least delay is above 511 times that
-  pub bounded :
-      (a b d : ℕ) → Proper g → g .stations ≤ 512 → ((k : ℕ) → k < length (g .rows) → delay g k ≤ 4294967295)
-      → Least g a b d → d ≤ 511 * 4294967295
+  -- so among 512 stations at most no least delay is above 511 times the most that a link takes
+  pub bounded : (a b d : ℕ) → Proper g → Bounded g → g .stations ≤ 512 → Least g a b d → d ≤ 511 * 4294967295
 
 pub record Under-is-an-equivalence (g : Network) : Type 0 where
   pub self : (i a : ℕ) → Under g i a a
@@ -109,7 +111,7 @@ pub record Joint-level-is-a-distance (g : Network) : Type 0 where
   -- no route takes less than half of 2 ^ level
   pub long : (a b i : ℕ) (ks : List ℕ) → Joint g a b (suc i) → Route g a ks b → 2 ^ i ≤ sum g ks
   -- and 32 is the highest
-  pub highest : (a b i : ℕ) → ((k : ℕ) → k < length (g .rows) → delay g k ≤ 4294967295) → Joint g a b i → i ≤ 32
+  pub highest : (a b i : ℕ) → Bounded g → Joint g a b i → i ≤ 32
 
 -- the least delays from s, none where no route leads
 pub record Each-source-has-its-delays (g : Network) (s : ℕ) : Type 0 where

@@ -5,5 +5,5 @@ pub returns : need.returns
 returns c g =
     record {
       few = λ a b d ks proper. least-few proper;
-      bounded = λ a b d proper n f h. least-bounded proper {n = 511} 4294967295 n f h;
+      bounded = λ a b d proper f n h. least-bounded proper {n = 511} 4294967295 n f h;
     }
