@@ -55,7 +55,7 @@ under-zero {g} proper u = go (u .route) (u .each)
     go here e = refl
     go (step h p) (and s e) = absurd (omega (arith, hop-delay proper h, s .under))
 
--- of three joint levels the two greater ones are equal
+-- by way of a third station it is at most the higher of the two
 pub joint-between : {g : Network} {a b c i j l : ℕ} → Joint g a b i → Joint g b c j → Joint g a c l → (l ≤ i) ⊎ (l ≤ j)
 joint-between {i = i} {j = j} p q r =
     elim (cases-lt i j) [
@@ -67,7 +67,7 @@ joint-between {i = i} {j = j} p q r =
 pub joint-apart : {g : Network} {a b i : ℕ} → Joint g a b (suc i) → ¬ Under g i a b
 joint-apart {i = i} p u = omega (arith, p .smallest i u)
 
--- links of level 32 at most: so is the joint level
+-- where every link is under 2 ^ top, the joint level is top at most
 pub joint-top : {g : Network} {a b i : ℕ} (top : ℕ) → ((k : ℕ) → k < length (g .rows) → delay g k < 2 ^ top) → Joint g a b i → i ≤ top
 joint-top top f p =
     let r = p .joined .route in
