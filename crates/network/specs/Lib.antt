@@ -1,4 +1,8 @@
+pub mod Laws
 pub mod Levels
+pub mod Lists
 pub mod Network
+pub mod Next
+pub mod Picked
 pub mod Refusals
 pub mod Rows

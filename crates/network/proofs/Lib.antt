@@ -1,0 +1,10 @@
+pub mod Cuts
+pub mod Groups
+pub mod Leasts
+pub mod Levels
+pub mod Lists
+pub mod Next
+pub mod Picked
+pub mod Routes
+pub mod Search
+pub mod Settled
