@@ -1,0 +1,4 @@
+pub mod Calls
+pub mod Matter
+pub mod Refusals
+pub mod Stages

@@ -1,0 +1,9 @@
+//! The book: opening, permits, links out of service.
+
+pub mod asks;
+pub mod book;
+pub mod changes;
+pub mod opening;
+pub mod permit;
+pub mod refusal;
+pub mod stage;
