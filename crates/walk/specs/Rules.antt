@@ -87,8 +87,8 @@ pub data Link (g : Network) (t : Tree) (v d k : ℕ) (s : Core) : Core → Type 
 
 -- rule 6: the links of v below number k, in their order
 pub data Links (g : Network) (t : Tree) (v d : ℕ) (s : Core) : ℕ → Core → Type 0 where
-  none : Links g t v d s 0 s
-  more : {k : ℕ} {s₁ s₂ : Core} → Links g t v d s k s₁ → Link g t v d k s₁ s₂ → Links g t v d s (suc k) s₂
+  begun : Links g t v d s 0 s
+  next : {k : ℕ} {s₁ s₂ : Core} → Links g t v d s k s₁ → Link g t v d k s₁ s₂ → Links g t v d s (suc k) s₂
 
 -- rule 6: the least of the station v becomes final, and its place is retired
 pub record Call (s : Core) (v d : ℕ) (final′ soFar′ : ℕ → Option ℕ) : Type 0 where
@@ -101,8 +101,8 @@ called s final soFar shelf = record { final = final; soFar = soFar; base = s .ba
 
 -- rule 2: the children cs are put by rule 3, one after the other
 pub data Puts (t : Tree) (soFar base : ℕ → Option ℕ) : List ℕ → Shelf → Shelf → Type 0 where
-  none : {h : Shelf} → Puts t soFar base [] h h
-  next : {c : ℕ} {cs : List ℕ} {h h₁ h₂ : Shelf} (b : Option ℕ)
+  done : {h : Shelf} → Puts t soFar base [] h h
+  put : {c : ℕ} {cs : List ℕ} {h h₁ h₂ : Shelf} (b : Option ℕ)
       → Belongs t soFar base c b → Placed t c b h h₁ → Puts t soFar base cs h₁ h₂ → Puts t soFar base (c ∷ cs) h h₂
 
 -- rule 2: x is expanded; d is its least
