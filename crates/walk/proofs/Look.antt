@@ -130,7 +130,3 @@ module _ {g : Network} {t : Tree} (fits : Fits g t) {src v d : ℕ} {fs : List F
       let z = links-looking r in
       let e = ap (λ (f : ℕ → Option ℕ). f v) (z .final) ∙ seen in
       record { facts = link-facts fits (z .facts) e l; looked = link-looked fits (z .facts) e (z .looked) l; final = link-final l ∙ z .final }
-
-  -- once all are followed
-  pub all-looked : {s₁ : Core} → Looking g t src v (length (g .rows)) s s₁ fs lim → Looked g (s₁ .final) (s₁ .soFar)
-  all-looked z w e u i a b j = z .looked w e u i a b j (λ q. j .listed)
