@@ -1,5 +1,7 @@
+pub mod Enter
 pub mod Invariant
 pub mod Keep
+pub mod Leave
 pub mod Lines
 pub mod Look
 pub mod Pass
