@@ -6,5 +6,8 @@ pub mod Lines
 pub mod Look
 pub mod Pass
 pub mod Rise
+pub mod Settle
+pub mod Start
 pub mod Take
+pub mod Taken
 pub mod Visit
