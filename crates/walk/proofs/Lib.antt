@@ -1,7 +1,9 @@
+pub mod Credit
 pub mod Enter
 pub mod Invariant
 pub mod Keep
 pub mod Leave
+pub mod Ledger
 pub mod Lines
 pub mod Look
 pub mod Pass
