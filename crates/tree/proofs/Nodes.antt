@@ -7,7 +7,6 @@ use native.Mathlib.Decide.{ℕ-discrete, decLt}
 use Rattle.std.specs.declared.option.Option.{Option}
 use Rattle.std.specs.declared.option.Option.the-variants.{Some, None}
 use Rattle.network.specs.Network.{Network}
-use Rattle.tree.specs.Totals.{total}
 use Rattle.tree.specs.Tree.{Tree, Below, self, up, In, Inner, Fits, buckets-in-all}
 use Rattle.tree.proofs.Totals.{total-longer}
 use Rattle.tree.proofs.Words.{some-none, same-some}

@@ -1,15 +1,15 @@
 -- What it takes a route to leave a node.
-use mathlib.Core.Path.{_≡_, refl, sym, ap, subst, _∙_}
-use mathlib.Core.List.{List, [], _∷_}
+use mathlib.Core.Path.{_≡_, refl}
+use mathlib.Core.List.{List, _∷_}
 use mathlib.Core.Logic.{_⊎_, inl, inr}
-use Prim.Native.Nat.{ℕ, _+_, _-_, _≤_, _<_, _^_}
+use Prim.Native.Nat.{ℕ, _-_, _≤_, _<_, _^_}
 use native.Mathlib.Omega.{arith}
 use lib.Pow.{pow-mono}
 use Rattle.std.specs.declared.option.Option.{Option}
 use Rattle.std.specs.declared.option.Option.the-variants.{Some, None}
-use Rattle.network.specs.Network.{Network, Route, here, step, Hop, Small, sum, delay, row}
+use Rattle.network.specs.Network.{Network, Route, here, step, Hop, Small, sum, row}
 use Rattle.network.specs.Rows.{Within}
-use Rattle.tree.specs.Tree.{Tree, Below, self, up, In, Fits, width}
+use Rattle.tree.specs.Tree.{Tree, Below, self, up, Fits, width}
 use Rattle.tree.proofs.Nodes.{below-trans, rooted, tell}
 
 module _ {g : Network} {t : Tree} (fits : Fits g t) where

@@ -1,8 +1,8 @@
 -- The steps that begin a visit keep the invariant.
 use mathlib.Core.Path.{_≡_, refl, sym, ap, subst, _∙_}
-use mathlib.Core.List.{List, [], _∷_}
-use mathlib.Core.Logic.{_⊎_, inl, inr, _≢_}
-use Prim.Native.Nat.{ℕ, zero, suc, _+_, _*_, _/_, _≤_, _<_, _^_}
+use mathlib.Core.List.{List, _∷_}
+use mathlib.Core.Logic.{inl, inr, _≢_}
+use Prim.Native.Nat.{ℕ, _+_, _*_, _/_, _≤_, _<_}
 use native.Mathlib.Omega.{arith}
 use native.Mathlib.Decide.{ℕ-discrete}
 use Rattle.std.specs.declared.option.Option.{Option}
@@ -12,7 +12,7 @@ use Rattle.tree.specs.Tree.{Tree, Below, self, up, In, Inner, Fits, width}
 use Rattle.tree.proofs.Nodes.{above-other}
 use Rattle.tree.proofs.Words.{some-none, same-some}
 use Rattle.walk.specs.declared.frame.Frame.{Frame}
-use Rattle.walk.specs.State.{Shelf, Core, State, Changed}
+use Rattle.walk.specs.State.{Shelf, Core, Changed}
 use Rattle.walk.specs.Rules.{Expand}
 use Rattle.walk.specs.Steps.{Open, coarse, entered}
 use Rattle.walk.proofs.Lines.{bucket-high, width-pos}

@@ -2,19 +2,19 @@
 use mathlib.Core.Path.{_≡_, refl, sym, ap, subst, _∙_}
 use mathlib.Core.List.{List, [], _∷_}
 use mathlib.Core.Logic.{_⊎_, inl, inr, _≢_}
-use Prim.Native.Nat.{ℕ, zero, suc, _+_, _*_, _≤_, _<_}
+use Prim.Native.Nat.{ℕ, _+_, _*_}
 use native.Mathlib.Omega.{arith}
 use native.Mathlib.Decide.{ℕ-discrete}
 use Rattle.std.specs.declared.option.Option.{Option}
 use Rattle.std.specs.declared.option.Option.the-variants.{Some, None}
 use Rattle.network.specs.Network.{Network}
-use Rattle.tree.specs.Tree.{Tree, Below, self, up, In, Inner, Fits, width, Among, Distinct}
+use Rattle.tree.specs.Tree.{Tree, Below, self, up, In, Fits, width, Among, Distinct}
 use Rattle.tree.proofs.Nodes.{nest, root-top, above-other}
 use Rattle.tree.proofs.Words.{some-none, same-some}
 use Rattle.walk.specs.declared.frame.Frame.{Frame}
 use Rattle.walk.specs.State.{Shelf, Core, Changed}
-use Rattle.walk.specs.Rules.{Lowest, Falls, Belongs, falls, unknown, Slot, within, past, Counted, Placed, Moved, there, moved, Puts, done, put}
-use Rattle.walk.specs.Steps.{Same, coarse}
+use Rattle.walk.specs.Rules.{Lowest, Belongs, falls, unknown, Slot, within, past, Moved, there, moved, Puts, done, put}
+use Rattle.walk.specs.Steps.{coarse}
 use Rattle.walk.proofs.Pass.{expanded-up}
 use Rattle.walk.proofs.Invariant.{On, Expanded, line, Stack, empty, bottom, above, Facts}
 

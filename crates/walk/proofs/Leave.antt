@@ -1,21 +1,21 @@
 -- The steps that end a visit keep the invariant.
 use mathlib.Core.Path.{_≡_, refl, sym, ap, subst, _∙_}
 use mathlib.Core.List.{List, [], _∷_}
-use mathlib.Core.Logic.{_⊎_, inl, inr, _≢_}
-use Prim.Native.Nat.{ℕ, zero, suc, _+_, _*_, _/_, _≤_, _<_, _^_}
+use mathlib.Core.Logic.{inl, inr, _≢_}
+use Prim.Native.Nat.{ℕ, suc, _+_, _*_, _/_, _≤_}
 use native.Mathlib.Omega.{arith}
 use native.Mathlib.Decide.{ℕ-discrete}
 use Rattle.std.specs.declared.option.Option.{Option}
 use Rattle.std.specs.declared.option.Option.the-variants.{Some, None}
 use Rattle.network.specs.Network.{Network}
-use Rattle.tree.specs.Tree.{Tree, Below, self, up, In, Fits, width}
+use Rattle.tree.specs.Tree.{Tree, Below, Fits, width}
 use Rattle.tree.proofs.Nodes.{root-same, above-other}
 use Rattle.tree.proofs.Routes.{wider}
 use Rattle.tree.proofs.Words.{some-none, same-some}
 use Rattle.walk.specs.declared.frame.Frame.{Frame}
 use Rattle.walk.specs.State.{Shelf, Core, State, Changed}
-use Rattle.walk.specs.Rules.{Lowest, Falls, Belongs, falls, unknown, Slot, Placed}
-use Rattle.walk.specs.Steps.{Open, Same, Ended, coarse, left}
+use Rattle.walk.specs.Rules.{Lowest, Belongs, falls, unknown, Placed}
+use Rattle.walk.specs.Steps.{Open, Ended, coarse, left}
 use Rattle.walk.specs.Steps as steps
 use Rattle.walk.proofs.Lines.{suc-line, bucket-is, width-pos}
 use Rattle.walk.proofs.Invariant.{On, Expanded, line, Standing, loose, fresh, visiting, through, waiting, Stack, empty, bottom, above, Top, Facts, Looked, Inv}

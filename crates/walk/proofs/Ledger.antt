@@ -1,8 +1,8 @@
 -- What is taken was put before: so a walk has put as often as it has visited stations, and it ends.
 use mathlib.Core.Path.{_≡_, refl, sym, ap, subst, _∙_}
-use mathlib.Core.List.{List, [], _∷_}
-use mathlib.Core.Logic.{_⊎_, inl, inr, _≢_}
-use Prim.Native.Nat.{ℕ, zero, suc, _+_, _*_, _≤_, _<_}
+use mathlib.Core.List.{List, _∷_}
+use mathlib.Core.Logic.{inl, inr, _≢_}
+use Prim.Native.Nat.{ℕ, suc, _+_, _≤_, _<_}
 use native.Mathlib.Omega.{arith}
 use native.Mathlib.Decide.{ℕ-discrete}
 use lib.ListN.{length}
@@ -10,7 +10,7 @@ use Rattle.std.specs.declared.option.Option.{Option}
 use Rattle.std.specs.declared.option.Option.the-variants.{Some, None}
 use Rattle.network.specs.Network.{Network}
 use Rattle.tree.specs.Totals.{total}
-use Rattle.tree.specs.Tree.{Tree, self, Fits, Sized}
+use Rattle.tree.specs.Tree.{Tree, self, Fits}
 use Rattle.tree.proofs.Laws-of-routes.{turn}
 use Rattle.tree.proofs.Nodes.{node-of, station-only}
 use Rattle.tree.proofs.Routes.{stay}
@@ -18,15 +18,15 @@ use Rattle.tree.proofs.Totals.{total-mono, total-zero, total-longer, total-chan
 use Rattle.tree.proofs.Words.{some-none, same-some}
 use Rattle.walk.specs.declared.frame.Frame.{Frame}
 use Rattle.walk.specs.State.{Shelf, Core, State, Changed}
-use Rattle.walk.specs.Rules.{Counted, nothing, one, Placed, Moved, there, moved, Link, skip, keep, lower, Links, begun, next, Call, called, Puts, done, put, Expand}
-use Rattle.walk.specs.Steps.{Going, Now, Taken, Visiting, Blank, Begin, alone, root, Step, visit, expand, again, rise, leave, end, Walk, begin, then, coarse, entered, left, risen-to}
-use Rattle.walk.specs.Laws.{Every-walk-ends, Every-walk-moves-enough, in-service, most-moves, reached}
+use Rattle.walk.specs.Rules.{Counted, nothing, one, Moved, there, moved, Link, skip, keep, lower, Links, begun, next, Call, called, Puts, done, put, Expand}
+use Rattle.walk.specs.Steps.{Going, Now, Taken, Blank, Begin, alone, root, Step, visit, expand, again, rise, leave, end, Walk, begin, then, entered, left, risen-to}
+use Rattle.walk.specs.Laws.{Every-walk-ends, Every-walk-moves-enough, reached}
 use Rattle.walk.specs.Laws as laws
 use Rattle.walk.proofs.Invariant.{Inv}
 use Rattle.walk.proofs.Keep.{Change, change}
-use Rattle.walk.proofs.Take.{New, Again, item}
+use Rattle.walk.proofs.Take.{item}
 use Rattle.walk.proofs.Settle.{walk-inv}
-use Rattle.walk.proofs.Credit.{moves-little}
+use Rattle.walk.proofs.Moves.{moves-little}
 
 -- how often each item was put and taken: what stands on the shelf was put once more
 pub record Stock (t : Tree) (h : Shelf) (puts takes : ℕ → ℕ) : Type 0 where

@@ -1,12 +1,16 @@
 pub mod Credit
 pub mod Enter
+pub mod Follow
 pub mod Invariant
 pub mod Keep
 pub mod Leave
 pub mod Ledger
 pub mod Lines
 pub mod Look
+pub mod Moves
 pub mod Pass
+pub mod Progress
+pub mod Ready
 pub mod Rise
 pub mod Settle
 pub mod Start

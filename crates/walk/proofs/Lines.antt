@@ -1,7 +1,7 @@
 -- Buckets: the lines of a width, and of the parent's width, which is a multiple of it. All division of the proofs is here.
 use mathlib.Core.Path.{_≡_, refl, sym, ap, _∙_}
 use mathlib.Core.Logic.{_≢_}
-use Prim.Native.Nat.{ℕ, zero, suc, _+_, _-_, _*_, _/_, _≤_, _<_, _^_}
+use Prim.Native.Nat.{ℕ, suc, _+_, _-_, _*_, _/_, _≤_, _<_, _^_}
 use native.Mathlib.Omega.{arith}
 use native.Mathlib.Decide.{decLt}
 use native.Mathlib.Nat.{lt-div-mul-add, div-mul-le-self, mul-le-mul-right, div-eq-of-lt-le, div-div-eq-div-mul, suc-mul, mul-assoc, mul-comm, mul-div-cancel, div-lt-iff-lt-mul, add-mul}

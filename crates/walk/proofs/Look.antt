@@ -1,38 +1,38 @@
 -- Following a link keeps what holds between links.
-use mathlib.Core.Path.{_≡_, refl, sym, ap, subst, _∙_}
-use mathlib.Core.List.{List, [], _∷_}
-use mathlib.Core.Logic.{_⊎_, inl, inr, _≢_}
-use Prim.Native.Nat.{ℕ, zero, suc, _+_, _*_, _≤_, _<_}
+use mathlib.Core.Path.{_≡_, refl, sym, ap, _∙_}
+use mathlib.Core.List.{List}
+use mathlib.Core.Logic.{_⊎_, inl, inr}
+use Prim.Native.Nat.{ℕ, suc, _+_, _<_}
 use native.Mathlib.Omega.{arith}
 use native.Mathlib.Decide.{ℕ-discrete}
-use lib.ListN.{length}
 use Rattle.std.specs.declared.option.Option.{Option}
 use Rattle.std.specs.declared.option.Option.the-variants.{Some, None}
 use Rattle.network.specs.Network.{Network, Hop, delay}
-use Rattle.tree.specs.Tree.{Tree, Below, In, Fits}
+use Rattle.tree.specs.Tree.{Tree, In, Fits}
 use Rattle.tree.proofs.Laws-of-routes.{one-more, other-end}
 use Rattle.tree.proofs.Routes.{ends}
-use Rattle.tree.proofs.Words.{some-none, same-some}
+use Rattle.tree.proofs.Words.{same-some}
 use Rattle.walk.specs.declared.frame.Frame.{Frame}
 use Rattle.walk.specs.State.{Shelf, Core, Changed}
 use Rattle.walk.specs.Rules.{Front, Belongs, Moved, Link, skip, keep, lower, Links, begun, next, lowered}
-use Rattle.walk.specs.Steps.{Open}
-use Rattle.walk.proofs.Invariant.{On, Expanded, Found, Known, Early, Standing, loose, fresh, visiting, through, waiting, Facts, LookedTo, Looked}
+use Rattle.walk.proofs.Invariant.{Found, Known, Early, Standing, loose, fresh, visiting, through, waiting, Facts, LookedTo}
 use Rattle.walk.proofs.Keep.{slot-at, belongs-at, belongs-keep, moved-set, front-one}
 
 module _ {g : Network} {t : Tree} (fits : Fits g t) {src : ℕ} {s : Core} {fs : List Frame} {lim : ℕ → ℕ} (facts : Facts g t src s fs lim)
     {v d k : ℕ} (seen : s .final v ≡ Some d) where
 
+  -- what a lowering writes is the sum of a route
+  pub found′ : {u : ℕ} {soFar′ : ℕ → Option ℕ} → Hop g k v u → s .final u ≡ None → Changed (s .soFar) u (Some (d + delay g k)) soFar′
+    → (w y : ℕ) → soFar′ w ≡ Some y → Dec (w ≡ u) → Found g t src (s .final) w y
+  found′ j n low w y e (no z) = facts .delays .found w y (sym (low .off w z) ∙ e)
+  found′ {u} {soFar′} j n low w y e (yes z) =
+      let q : y ≡ d + delay g k = same-some (ap soFar′ (sym z) ∙ e) (low .at) in
+      rw (z, q) (record { station = ends fits j; unvisited = n; attained = one-more (facts .delays .exact v d seen .attained) j })
+
   -- the station u is lowered, and its front c moved to where it belongs
   module _ {u c : ℕ} {b : Option ℕ} {soFar′ : ℕ → Option ℕ} {h′ : Shelf} (j : Hop g k v u) (n : s .final u ≡ None)
       (nearer : (y : ℕ) → s .soFar u ≡ Some y → d + delay g k < y) (low : Changed (s .soFar) u (Some (d + delay g k)) soFar′)
       (front : Front t (s .base) u c) (bel : Belongs t soFar′ (s .base) c b) (move : Moved t c b (s .shelf) h′) where
-
-    found′ : (w y : ℕ) → soFar′ w ≡ Some y → Dec (w ≡ u) → Found g t src (s .final) w y
-    found′ w y e (no z) = facts .delays .found w y (sym (low .off w z) ∙ e)
-    found′ w y e (yes z) =
-        let q : y ≡ d + delay g k = same-some (ap soFar′ (sym z) ∙ e) (low .at) in
-        rw (z, q) (record { station = ends fits j; unvisited = n; attained = one-more (facts .delays .exact v d seen .attained) j })
 
     start′ : s .soFar src ≡ Some 0 → Dec (src ≡ u) → soFar′ src ≡ Some 0
     start′ e (yes z) = absurd (omega (arith, nearer 0 (ap (s .soFar) (sym z) ∙ e)))
@@ -65,7 +65,7 @@ module _ {g : Network} {t : Tree} (fits : Fits g t) {src : ℕ} {s : Core} {fs :
         record {
           delays = record {
             exact = facts .delays .exact;
-            found = λ w y e. found′ w y e (ℕ-discrete w u);
+            found = λ w y e. found′ j n low w y e (ℕ-discrete w u);
             start = elim (facts .delays .start) [ inl a ↦ inl a | inr e ↦ inr (start′ e (ℕ-discrete src u)) ]
           };
           grown = facts .grown;
@@ -116,7 +116,7 @@ pub record Looking (g : Network) (t : Tree) (src v k : ℕ) (s s₁ : Core) (fs 
   pub looked : LookedTo g (s₁ .final) (s₁ .soFar) v k
   pub final : s₁ .final ≡ s .final
 
-link-final : {g : Network} {t : Tree} {v d k : ℕ} {s s₁ : Core} → Link g t v d k s s₁ → s₁ .final ≡ s .final
+pub link-final : {g : Network} {t : Tree} {v d k : ℕ} {s s₁ : Core} → Link g t v d k s s₁ → s₁ .final ≡ s .final
 link-final (skip h) = refl
 link-final (keep u y j n e l) = refl
 link-final (lower u c b soFar′ h′ j n nearer low front bel move) = refl

@@ -1,15 +1,15 @@
 -- Routes to an unvisited station: what the walk knows of their length.
-use mathlib.Core.Path.{_≡_, refl, sym, ap, subst, _∙_}
-use mathlib.Core.List.{List, [], _∷_, _++_, reverse}
-use mathlib.Core.Logic.{_⊎_, inl, inr, _≢_}
-use Prim.Native.Nat.{ℕ, zero, suc, _+_, _≤_, _<_}
+use mathlib.Core.Path.{_≡_, refl}
+use mathlib.Core.List.{List, [], _∷_}
+use mathlib.Core.Logic.{_⊎_, inl, inr}
+use Prim.Native.Nat.{ℕ, _+_, _≤_}
 use native.Mathlib.Omega.{arith}
 use Rattle.std.specs.declared.option.Option.{Option}
 use Rattle.std.specs.declared.option.Option.the-variants.{Some, None}
 use Rattle.network.specs.Network.{Network, Route, here, step, Hop, sum, delay}
-use Rattle.tree.specs.Tree.{Tree, Below, self, up, In, Fits, width}
+use Rattle.tree.specs.Tree.{Tree, Below, self, up, In, Fits}
 use Rattle.tree.proofs.Laws-of-routes.{turn, turn-sum}
-use Rattle.tree.proofs.Nodes.{below-trans, in-parent, tell}
+use Rattle.tree.proofs.Nodes.{in-parent, tell}
 use Rattle.tree.proofs.Routes.{meet}
 use Rattle.tree.proofs.Words.{some-none}
 use Rattle.walk.specs.declared.frame.Frame.{Frame}

@@ -1,23 +1,23 @@
 -- The step that raises the counter keeps the invariant.
 use mathlib.Core.Path.{_≡_, refl, sym, ap, subst, _∙_}
-use mathlib.Core.List.{List, [], _∷_}
-use mathlib.Core.Logic.{_⊎_, inl, inr, _≢_}
-use Prim.Native.Nat.{ℕ, zero, suc, _+_, _*_, _/_, _≤_, _<_}
+use mathlib.Core.List.{List, _∷_}
+use mathlib.Core.Logic.{inl, inr, _≢_}
+use Prim.Native.Nat.{ℕ, suc, _+_, _*_, _/_, _≤_, _<_}
 use native.Mathlib.Omega.{arith}
 use native.Mathlib.Decide.{ℕ-discrete}
 use Rattle.std.specs.declared.option.Option.{Option}
 use Rattle.std.specs.declared.option.Option.the-variants.{Some, None}
 use Rattle.network.specs.Network.{Network, Route, sum}
-use Rattle.tree.specs.Tree.{Tree, Below, self, up, In, Fits, width}
+use Rattle.tree.specs.Tree.{Tree, self, In, Fits, width}
 use Rattle.tree.proofs.Nodes.{in-parent, Through, in-inner, above-other}
 use Rattle.tree.proofs.Words.{some-none, same-some}
 use Rattle.walk.specs.declared.frame.Frame.{Frame}
-use Rattle.walk.specs.State.{Shelf, Core, State, Changed}
-use Rattle.walk.specs.Rules.{Falls, falls, unknown, Slot, within, past}
-use Rattle.walk.specs.Steps.{Open, Same, Going, Now, coarse, risen-to}
+use Rattle.walk.specs.State.{Core, State, Changed}
+use Rattle.walk.specs.Rules.{falls, unknown, Slot, within, past}
+use Rattle.walk.specs.Steps.{Open, Going, Now, coarse, risen-to}
 use Rattle.walk.proofs.Lines.{suc-line, line-mono, line-lt, bucket-low, bucket-high, coarse-high, coarse-past, width-pos}
-use Rattle.walk.proofs.Invariant.{On, Expanded, line, Standing, loose, fresh, visiting, through, waiting, Stack, Top, Facts, Looked, Inv}
-use Rattle.walk.proofs.Keep.{Change, change, cons-nil, restack, OnTail, on-above, began-at, the-stack, child-off}
+use Rattle.walk.proofs.Invariant.{On, Expanded, line, Standing, loose, fresh, visiting, through, waiting, Top, Facts, Looked, Inv}
+use Rattle.walk.proofs.Keep.{Change, change, restack, OnTail, on-above, began-at, the-stack, child-off}
 use Rattle.walk.proofs.Pass.{known-far, pass}
 use Rattle.walk.proofs.Take.{in-room}
 

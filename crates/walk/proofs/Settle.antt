@@ -1,18 +1,16 @@
 -- Every walk keeps the invariant, and so a run settles the network.
-use mathlib.Core.Path.{_≡_, refl, sym, ap, subst, _∙_}
-use mathlib.Core.List.{List, [], _∷_}
-use Prim.Native.Nat.{ℕ, zero, suc, _<_}
-use native.Mathlib.Omega.{arith}
+use mathlib.Core.Path.{_≡_, refl}
+use mathlib.Core.List.{List}
+use Prim.Native.Nat.{ℕ, _<_}
 use Rattle.std.specs.declared.option.Option.{Option}
 use Rattle.std.specs.declared.option.Option.the-variants.{Some, None}
-use Rattle.network.specs.Network.{Network, Route, NoRoute}
-use Rattle.tree.specs.Tree.{Tree, Below, In, Fits}
-use Rattle.tree.proofs.Nodes.{Rooted, rooted}
+use Rattle.network.specs.Network.{Network, Route}
+use Rattle.tree.specs.Tree.{Tree, Fits}
+use Rattle.tree.proofs.Nodes.{rooted}
 use Rattle.tree.proofs.Routes.{stay, route-ends}
-use Rattle.tree.proofs.Words.{some-none}
 use Rattle.walk.specs.State.{State}
 use Rattle.walk.specs.Rules.{falls, unknown}
-use Rattle.walk.specs.Steps.{Open, Step, visit, expand, again, rise, leave, end, Walk, begin, then}
+use Rattle.walk.specs.Steps.{Step, visit, expand, again, rise, leave, end, Walk, begin, then}
 use Rattle.walk.specs.Laws.{Every-run-settles}
 use Rattle.walk.proofs.Invariant.{Standing, loose, fresh, visiting, through, waiting, Inv}
 use Rattle.walk.proofs.Visit.{visit-step}

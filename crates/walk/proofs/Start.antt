@@ -1,24 +1,22 @@
 -- The start of the walk: the invariant holds.
 use mathlib.Core.Path.{_≡_, refl, sym, ap, subst, _∙_}
-use mathlib.Core.List.{List, [], _∷_}
-use mathlib.Core.Logic.{_⊎_, inl, inr, _≢_}
-use Prim.Native.Nat.{ℕ, zero, suc, _+_, _*_, _/_, _≤_, _<_, _^_}
+use mathlib.Core.List.{List, _∷_}
+use mathlib.Core.Logic.{inl, inr}
+use Prim.Native.Nat.{ℕ, _+_, _*_, _/_, _≤_, _<_}
 use native.Mathlib.Omega.{arith}
 use native.Mathlib.Decide.{ℕ-discrete}
-use lib.ListN.{length}
 use Rattle.std.specs.declared.option.Option.{Option}
 use Rattle.std.specs.declared.option.Option.the-variants.{Some, None}
 use Rattle.network.specs.Network.{Network, Route, sum}
-use Rattle.tree.specs.Tree.{Tree, Below, self, In, Inner, Fits, width}
+use Rattle.tree.specs.Tree.{Tree, Below, In, Inner, Fits, width}
 use Rattle.tree.proofs.Laws-of-routes.{least-self}
 use Rattle.tree.proofs.Nodes.{station-only, root-top, holder}
 use Rattle.tree.proofs.Words.{some-none, same-some}
-use Rattle.walk.specs.declared.frame.Frame.{Frame}
-use Rattle.walk.specs.State.{Shelf, Core, State, Changed}
-use Rattle.walk.specs.Rules.{Expand, Call, called, Links}
+use Rattle.walk.specs.State.{Core, State, Changed}
+use Rattle.walk.specs.Rules.{Call, called, Links}
 use Rattle.walk.specs.Steps.{Open, Blank, Begin, alone, root, entered}
 use Rattle.walk.proofs.Lines.{bucket-low}
-use Rattle.walk.proofs.Invariant.{On, Expanded, Found, Stack, empty, bottom, loose, Facts, LookedTo, Looked, Inv}
+use Rattle.walk.proofs.Invariant.{On, Expanded, Found, Stack, empty, bottom, loose, Facts, Looked, Inv}
 use Rattle.walk.proofs.Keep.{Change, change, cons-nil}
 use Rattle.walk.proofs.Look.{Looking, links-looking}
 use Rattle.walk.proofs.Pass.{pass}

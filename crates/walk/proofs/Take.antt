@@ -1,15 +1,15 @@
 -- What the bucket of the counter hands over. A station that it hands over is at its least delay.
-use mathlib.Core.Path.{_≡_, refl, sym, ap, subst, _∙_}
-use mathlib.Core.List.{List, [], _∷_, _++_}
-use mathlib.Core.Logic.{_⊎_, inl, inr, _≢_}
-use Prim.Native.Nat.{ℕ, zero, suc, _+_, _*_, _/_, _≤_, _<_, _^_}
+use mathlib.Core.Path.{_≡_, refl, sym, ap, _∙_}
+use mathlib.Core.List.{List, _∷_, _++_}
+use mathlib.Core.Logic.{_⊎_, inl, inr}
+use Prim.Native.Nat.{ℕ, _+_, _*_, _/_, _≤_, _<_, _^_}
 use native.Mathlib.Omega.{arith}
 use native.Mathlib.Nat.{add-mul}
 use lib.Pow.{pow-pos}
 use Rattle.std.specs.declared.option.Option.{Option}
 use Rattle.std.specs.declared.option.Option.the-variants.{Some, None}
 use Rattle.network.specs.Network.{Network, Route, here, step, Hop, Attained, Least, Each, and, Small, sum, delay}
-use Rattle.tree.specs.Tree.{Tree, Below, self, up, In, Inner, Fits, width}
+use Rattle.tree.specs.Tree.{Tree, Below, self, In, Inner, Fits, width}
 use Rattle.tree.proofs.Laws-of-routes.{flip, join, join-sum}
 use Rattle.tree.proofs.Nodes.{station-only, separate}
 use Rattle.tree.proofs.Routes.{ends}
@@ -17,8 +17,8 @@ use Rattle.tree.proofs.Routes as routes
 use Rattle.tree.proofs.Words.{some-none, same-some}
 use Rattle.walk.specs.declared.frame.Frame.{Frame}
 use Rattle.walk.specs.State.{Shelf, Core}
-use Rattle.walk.specs.Rules.{Lowest, Falls, Belongs, falls, unknown, Slot, within, past}
-use Rattle.walk.specs.Steps.{Open, Going, Now, Taken}
+use Rattle.walk.specs.Rules.{Lowest, falls, unknown, Slot, within, past}
+use Rattle.walk.specs.Steps.{Open, Going, Taken}
 use Rattle.walk.proofs.Lines.{line-lt, bucket-high, width-pos}
 use Rattle.walk.proofs.Pass.{pass}
 use Rattle.walk.proofs.Invariant.{On, Expanded, line, Early, Standing, loose, fresh, visiting, through, waiting, Facts, Looked}

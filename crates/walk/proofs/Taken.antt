@@ -1,17 +1,17 @@
 -- Taking an inner node keeps the invariant.
 use mathlib.Core.Path.{_≡_, refl, sym, ap, subst, _∙_}
-use mathlib.Core.List.{List, [], _∷_}
+use mathlib.Core.List.{List, _∷_}
 use mathlib.Core.Logic.{_⊎_, inl, inr, _≢_}
-use Prim.Native.Nat.{ℕ, zero, suc, _+_, _*_, _/_, _≤_, _<_, _^_}
+use Prim.Native.Nat.{ℕ, suc, _+_, _*_, _/_, _≤_, _<_}
 use native.Mathlib.Omega.{arith}
 use Rattle.std.specs.declared.option.Option.{Option}
 use Rattle.std.specs.declared.option.Option.the-variants.{Some, None}
 use Rattle.network.specs.Network.{Network, Route, sum}
-use Rattle.tree.specs.Tree.{Tree, Below, self, In, Inner, Fits, width}
+use Rattle.tree.specs.Tree.{Tree, self, In, Inner, Fits, width}
 use Rattle.tree.proofs.Nodes.{node-of, above-other}
 use Rattle.tree.proofs.Words.{some-none, same-some}
 use Rattle.walk.specs.declared.frame.Frame.{Frame}
-use Rattle.walk.specs.State.{Shelf, Core, State}
+use Rattle.walk.specs.State.{Shelf, State}
 use Rattle.walk.specs.Rules.{Expand}
 use Rattle.walk.specs.Steps.{Going, Taken, coarse, entered}
 use Rattle.walk.proofs.Lines.{suc-line, bucket-low, bucket-high, coarse-next, coarse-least, coarse-line, width-pos}

@@ -1,22 +1,22 @@
 -- Visiting a station keeps the invariant.
-use mathlib.Core.Path.{_≡_, refl, sym, ap, subst, _∙_}
-use mathlib.Core.List.{List, [], _∷_}
+use mathlib.Core.Path.{_≡_, sym, ap, subst, _∙_}
+use mathlib.Core.List.{List, _∷_}
 use mathlib.Core.Logic.{_⊎_, inl, inr, _≢_}
-use Prim.Native.Nat.{ℕ, zero, suc, _+_, _*_, _≤_, _<_}
+use Prim.Native.Nat.{ℕ, suc, _+_, _<_}
 use native.Mathlib.Omega.{arith}
 use native.Mathlib.Decide.{ℕ-discrete}
 use lib.ListN.{length}
 use Rattle.std.specs.declared.option.Option.{Option}
 use Rattle.std.specs.declared.option.Option.the-variants.{Some, None}
-use Rattle.network.specs.Network.{Network, Hop, Least, delay}
+use Rattle.network.specs.Network.{Network, Least, delay}
 use Rattle.tree.specs.Tree.{Tree, Below, self, up, In, Fits}
 use Rattle.tree.proofs.Nodes.{station-only}
 use Rattle.tree.proofs.Words.{some-none, same-some}
 use Rattle.walk.specs.declared.frame.Frame.{Frame}
 use Rattle.walk.specs.State.{Shelf, Core, State, Changed}
-use Rattle.walk.specs.Rules.{unknown, Call, called, Links}
+use Rattle.walk.specs.Rules.{unknown, Call, called, Link, next}
 use Rattle.walk.specs.Steps.{Open, Going, Taken, Visiting}
-use Rattle.walk.proofs.Invariant.{On, Expanded, Delays, Found, Known, Early, Standing, loose, fresh, visiting, through, waiting, Facts, LookedTo, Looked, Inv}
+use Rattle.walk.proofs.Invariant.{On, Expanded, Found, Known, Early, Standing, loose, fresh, visiting, through, waiting, Facts, LookedTo, Looked, Inv}
 use Rattle.walk.proofs.Keep.{cons-nil, slot-at, belongs-at, belongs-keep, above-on, front-one, the-stack}
 use Rattle.walk.proofs.Look.{Looking, links-looking}
 use Rattle.walk.proofs.Pass.{limits-up}
@@ -155,6 +155,12 @@ module _ {g : Network} {t : Tree} (fits : Fits g t) {src : ℕ} {s : Core} {fs :
 
   pub visit-looked : LookedTo g final′ soFar′ v 0
   visit-looked = call-looked fits facts n (all .least) home before sole waits call h′ (tk .off) looked
+
+-- one link more
+pub next-link : {g : Network} {t : Tree} {s : State} {v d k : ℕ} {s₁ s₂ : Core} → Visiting g t s v d k s₁ → Link g t v d k s₁ s₂ → Visiting g t s v d (suc k) s₂
+next-link vis l =
+    record { f = vis .f; fs = vis .fs; top = vis .top; going = vis .going; h′ = vis .h′; taken = vis .taken; station = vis .station; final′ = vis .final′; soFar′ = vis .soFar′; call = vis .call;
+      links = next (vis .links) l }
 
 -- in the midst of its links, and past them
 pub visiting-looking : {g : Network} {t : Tree} (fits : Fits g t) {src : ℕ} {s : State} {v d k : ℕ} {s₁ : Core} (i : Inv g t src s) (vis : Visiting g t s v d k s₁)

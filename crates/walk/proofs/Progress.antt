@@ -1,0 +1,208 @@
+-- A walk that is not at its end has a next step.
+use mathlib.Core.Path.{_≡_, refl, sym, ap, subst, _∙_}
+use mathlib.Core.List.{List, [], _∷_}
+use mathlib.Core.Logic.{_⊎_, inl, inr}
+use Prim.Native.Nat.{ℕ, zero, suc, _+_, _-_, _*_, _≤_, _<_}
+use native.Mathlib.Omega.{arith}
+use native.Mathlib.Decide.{ℕ-discrete, decLt}
+use lib.ListN.{length}
+use Rattle.std.specs.declared.option.Option.{Option}
+use Rattle.std.specs.declared.option.Option.the-variants.{Some, None}
+use Rattle.network.specs.Network.{Network}
+use Rattle.tree.specs.Tree.{Tree, Below, self, Fits}
+use Rattle.tree.proofs.Nodes.{node-of, station-only, above-other, rooted, tell, through, Through, Rooted}
+use Rattle.tree.proofs.Words.{some-none, same-some}
+use Rattle.walk.specs.declared.frame.Frame.{Frame}
+use Rattle.walk.specs.State.{Shelf, Core, State}
+use Rattle.walk.specs.Rules.{Lowest, Nothing, Call, called, Links, begun, next}
+use Rattle.walk.specs.Steps.{Open, Going, Now, Taken, Ended, risen, Visiting, Blank, alone, root, visit, expand, again, rise, leave, end, Walk, begin, then, coarse, entered, left, risen-to}
+use Rattle.walk.specs.Steps as steps
+use Rattle.walk.specs.Laws.{Given, Next, Runs-to, Every-walk-goes-on, Every-source-has-a-run, most-moves, in-service}
+use Rattle.walk.proofs.Invariant.{Expanded, Inv}
+use Rattle.walk.proofs.Keep.{Change, change, top-expanded, the-stack}
+use Rattle.walk.proofs.Take.{New, Again, item}
+use Rattle.walk.proofs.Visit.{next-link, visiting-looking}
+use Rattle.walk.proofs.Start.{alone-looking}
+use Rattle.walk.proofs.Settle.{walk-inv}
+use Rattle.walk.proofs.Moves.{moves-little, children-few, blank-children, alone-few}
+use Rattle.walk.proofs.Ledger.{ends}
+use Rattle.walk.proofs.Ready.{least-of, place, base-le, least-above, top-free, child-free}
+use Rattle.walk.proofs.Follow.{places, expands, follow}
+
+-- a bounded search
+find : (P : ℕ → Type 0) → ((u : ℕ) → Dec (P u)) → (n : ℕ) → ((u : ℕ) × (u < n) × P u) ⊎ ((u : ℕ) → u < n → ¬ P u)
+find P dec zero = inr (λ u h. absurd (omega arith))
+find P dec (suc n) = go (dec n) (find P dec n)
+  where
+    go : Dec (P n) → ((u : ℕ) × (u < n) × P u) ⊎ ((u : ℕ) → u < n → ¬ P u) → ((u : ℕ) × (u < suc n) × P u) ⊎ ((u : ℕ) → u < suc n → ¬ P u)
+    go (yes p) r = inl (n, omega arith, p)
+    go (no p) (inl r) = inl (r .0, omega (arith, r .1), r .2)
+    go (no p) (inr r) = inr (λ u h q. elim (ℕ-discrete u n) [ yes z ↦ p (subst P z q) | no z ↦ r u (omega arith) q ])
+
+is-none : (o : Option ℕ) → Dec (o ≡ None)
+is-none None = yes refl
+is-none (Some a) = no (λ e. some-none refl e)
+
+is-some : (o : Option ℕ) (b : ℕ) → Dec (o ≡ Some b)
+is-some None b = no (λ e. some-none e refl)
+is-some (Some a) b = elim (ℕ-discrete a b) [ yes e ↦ yes (ap Some e) | no e ↦ no (λ q. e (same-some {o = Some a} refl q)) ]
+
+-- whether x has an unvisited station
+open-or-not : {g : Network} {t : Tree} → Fits g t → (final : ℕ → Option ℕ) (x : ℕ) → Open t final x ⊎ (¬ Open t final x)
+open-or-not {g} {t} fits final x = elim (find (λ u. Below t u x × (final u ≡ None)) both (t .stations)) [
+    inl r ↦ inl (record { u = r .0; inside = record { station = r .1; below = r .2 .0 }; unvisited = r .2 .1 })
+  | inr n ↦ inr (λ o. n (o .u) (o .inside .station) (o .inside .below, o .unvisited))
+  ]
+  where
+    both : (u : ℕ) → Dec (Below t u x × (final u ≡ None))
+    both u = go (tell fits u x) (is-none (final u))
+      where
+        go : Dec (Below t u x) → Dec (final u ≡ None) → Dec (Below t u x × (final u ≡ None))
+        go (yes a) (yes b) = yes (a, b)
+        go (yes a) (no b) = no (λ q. b (q .1))
+        go (no a) b = no (λ q. a (q .0))
+
+module _ {g : Network} {t : Tree} {src : ℕ} (given : Given g t src) (limit : most-moves g t < 65535) {j : ℕ} {s : State} (w : Walk g t src j s) where
+
+  i : Inv g t src s
+  i = walk-inv (given .fits) (given .station) w
+
+  few : s .core .shelf .puts < 65535
+  few = omega (arith, moves-little g t src j s given w .here)
+
+  module _ {f : Frame} {fs : List Frame} (ef : s .frames ≡ f ∷ fs) where
+
+    on : Expanded (s .core .base) (f .node)
+    on = top-expanded (the-stack (given .fits) (i .facts) ef)
+
+    -- the visit ends
+    ends-there : Ended t (s .core) f → Next g t s
+    ends-there ended = go (t .parent (f .node)) refl
+      where
+        go : (o : Option ℕ) → t .parent (f .node) ≡ o → Next g t s
+        go None h = record { to = left s (s .core .shelf) fs; step = end f fs ef ended h }
+        go (Some p) h =
+            let e = i .facts .grown .upward (f .node) (on .start) p (on .based) h in
+            let b = place (given .fits) h e (least-above (given .fits) (i .facts) h e) in
+            let a = places (given .fits) (s .core .shelf) few (top-free (given .fits) (i .facts) ef) (b .belongs) in
+            record { to = left s (a .h′) fs; step = leave f fs p (b .b) (a .h′) ef ended h (b .belongs) (a .placed) }
+
+    -- the visit goes on: an item is taken
+    module _ (going : Going t (s .core) f) {c : ℕ} {h′ : Shelf} (tk : Taken t (s .core) (f .node) c h′) where
+
+      visits : {d : ℕ} {final′ soFar′ : ℕ → Option ℕ} → c < t .stations → Call (s .core) c d final′ soFar′ → (k : ℕ) → k ≤ length (g .rows) → (s₁ : Core) × Visiting g t s c d k s₁
+      visits {d} {final′} {soFar′} n call zero h =
+          (called (s .core) final′ soFar′ h′, record { f = f; fs = fs; top = ef; going = going; h′ = h′; taken = tk; station = n; final′ = final′; soFar′ = soFar′; call = call; links = begun })
+      visits {d} {final′} {soFar′} n call (suc k) h =
+          let r = visits n call k (omega arith) in
+          let v = r .1 in
+          let z = visiting-looking (given .fits) i v in
+          let l = follow (given .fits) (z .facts) n (ap (λ (a : ℕ → Option ℕ). a c) (z .final) ∙ v .call .final .at) {k = k} (omega (arith, moves-little g t src j s given w .between c d k (r .0) v)) h in
+          (l .to, next-link v (l .link))
+
+      takes : New t (s .core) (f .node) c ⊎ Again t (s .core) (s .frames) (i .lim) (f .node) c → Dec (c < t .stations) → Next g t s
+      takes (inr a) (yes n) = absurd (omega (arith, i .facts .grown .inner c (a .expanded .start) (a .expanded .based) .above))
+      takes (inr a) (no n) =
+          record { to = entered s c (coarse t c (f .node) (s .core .count c)) (s .core .base) (s .core .count) h′; step = again f fs c (a .expanded .start) h′ ef going tk (omega arith) (a .expanded .based) }
+      takes (inl a) (no n) =
+          let x = expands (given .fits) {s = s .core} (a .lowest) h′ (λ y q. tk .off .off y (λ z. above-other (given .fits) q self z) ∙ child-free (given .fits) (i .facts) q (a .shut))
+                    (omega (arith, tk .puts, children-few given w c (a .shut))) in
+          record { to = entered s c (coarse t c (f .node) (x .count′ c)) (x .base′) (x .count′) (x .h′); step = expand f fs c (a .least) h′ (x .base′) (x .count′) (x .h′) ef going tk (omega arith) (a .shut) (x .expand) }
+      takes (inl a) (yes n) =
+          let nf = change (s .core .final) c (Some (a .least)) in
+          let ns = change (s .core .soFar) c None in
+          let r = visits n (record { known = ap (s .core .soFar) (sym (station-only (given .fits) n (a .lowest .inside .below))) ∙ a .lowest .known; final = nf .set; soFar = ns .set }) (length (g .rows)) (omega arith) in
+          record { to = record { core = r .0; frames = s .frames }; step = visit c (a .least) (r .0) (r .1) }
+
+    going-there : Going t (s .core) f → Next g t s
+    going-there going = look (find (λ c. s .core .shelf .bucket c ≡ Some (t .first (f .node) + k)) (λ c. is-some (s .core .shelf .bucket c) (t .first (f .node) + k)) (t .nodes))
+      where
+        k : ℕ
+        k = s .core .count (f .node) - on .start
+        now : Now (s .core) (f .node) k
+        now = record { start = on .start; based = on .based; spot = omega (arith, base-le (given .fits) (i .facts) (f .node) (on .start) (on .based)) }
+        taken : (c : ℕ) → s .core .shelf .bucket c ≡ Some (t .first (f .node) + k) → (h′ : Shelf) × Taken t (s .core) (f .node) c h′
+        taken c e = let n = change (s .core .shelf .bucket) c None in (record { bucket = n .to; puts = s .core .shelf .puts }, record { k = k; now = now; item = e; off = n .set; puts = refl })
+        small : (c : ℕ) → New t (s .core) (f .node) c ⊎ Again t (s .core) (s .frames) (i .lim) (f .node) c → c < t .nodes
+        small c (inl a) = node-of (given .fits) (a .parent)
+        small c (inr a) = node-of (given .fits) (a .parent)
+        look : ((c : ℕ) × (c < t .nodes) × (s .core .shelf .bucket c ≡ Some (t .first (f .node) + k))) ⊎ ((c : ℕ) → c < t .nodes → ¬ (s .core .shelf .bucket c ≡ Some (t .first (f .node) + k))) → Next g t s
+        look (inl r) = let tk = taken (r .0) (r .2) in takes going (tk .1) (item (given .fits) (i .facts) (going .more) (tk .1)) (decLt (r .0) (t .stations))
+        look (inr n) =
+            let a = change (s .core .count) (f .node) (suc (s .core .count (f .node))) in
+            record { to = risen-to s (a .to); step = rise f fs k (a .to) ef going now (λ c e. n c (small c (item (given .fits) (i .facts) (going .more) (taken c e .1))) e) (a .set) }
+
+    pub next-step : Next g t s
+    next-step = go (open-or-not (given .fits) (s .core .final) (f .node)) (t .parent (f .node)) refl
+      where
+        go : Open t (s .core .final) (f .node) ⊎ (¬ Open t (s .core .final) (f .node)) → (o : Option ℕ) → t .parent (f .node) ≡ o → Next g t s
+        go (inr n) o h = ends-there (steps.through n)
+        go (inl m) None h = going-there (record { more = m; same = λ p q. absurd (some-none q h) })
+        go (inl m) (Some p) h = elim (ℕ-discrete (coarse t (f .node) p (s .core .count (f .node))) (f .began)) [
+            yes e ↦ going-there (record { more = m; same = λ q z. ap (λ a. coarse t (f .node) a (s .core .count (f .node))) (same-some z h) ∙ e })
+          | no e ↦ ends-there (risen p h e)
+          ]
+
+pub goes-on : Every-walk-goes-on
+goes-on g t src k s given limit w = go (s .frames) refl
+  where
+    go : (fs : List Frame) → s .frames ≡ fs → (s .frames ≡ []) ⊎ Next g t s
+    go [] e = inl e
+    go (f ∷ fs) e = inr (next-step given limit w e)
+
+-- a walk can begin
+record Begins (g : Network) (t : Tree) (src : ℕ) : Type 0 where
+  pub state : State
+  pub walk : Walk g t src 0 state
+
+begins : {g : Network} {t : Tree} (src : ℕ) → Given g t src → most-moves g t < 65535 → Begins g t src
+begins {g} {t} src given limit = go (through (r .below))
+  where
+    r : Rooted t src
+    r = rooted (given .fits) src
+    a : Change {A = Option ℕ} (λ (u : ℕ). None) src (Some 0)
+    a = change {A = Option ℕ} (λ (u : ℕ). None) src (Some 0)
+    s : State
+    s = record { core = record { final = λ u. None; soFar = a .to; base = λ x. None; count = λ x. 0; shelf = record { bucket = λ c. None; puts = 0 } }; frames = [] }
+    blank : Blank src s
+    blank = record { final = λ u. refl; soFar = a .set; base = λ x. refl; count = λ x. refl; bucket = λ c. refl; puts = refl; frames = refl }
+    go : (src ≡ r .root) ⊎ Through t src (r .root) → Begins g t src
+    go (inl e) = let l = all (length (g .rows)) (omega arith) in record { state = record { core = l .0; frames = [] }; walk = begin (alone (nf .to) (ns .to) (l .0) blank lone call (l .1)) }
+      where
+        lone : t .parent src ≡ None
+        lone = ap (t .parent) e ∙ r .top
+        nf : Change {A = Option ℕ} (λ (u : ℕ). None) src (Some 0)
+        nf = change {A = Option ℕ} (λ (u : ℕ). None) src (Some 0)
+        ns : Change (a .to) src None
+        ns = change (a .to) src None
+        call : Call (s .core) src 0 (nf .to) (ns .to)
+        call = record { known = a .set .at; final = nf .set; soFar = ns .set }
+        -- no link leads out of it, so none puts anything
+        all : (k : ℕ) → k ≤ length (g .rows) → (s₁ : Core) × Links g t src 0 (called (s .core) (nf .to) (ns .to) (s .core .shelf)) k s₁
+        all zero h = (called (s .core) (nf .to) (ns .to) (s .core .shelf), begun)
+        all (suc k) h =
+            let q = all k (omega arith) in
+            let z = alone-looking (given .fits) (given .station) blank lone call (q .1) in
+            let l = follow (given .fits) (z .facts) (given .station) (ap (λ (f : ℕ → Option ℕ). f src) (z .final) ∙ call .final .at) {k = k} (omega (arith, alone-few given blank lone call (q .1))) h in
+            (l .to, next (q .1) (l .link))
+    go (inr c) = pick (least-of (given .fits) (s .core .soFar) (r .root))
+      where
+        pick : ((d : ℕ) × Lowest t (s .core .soFar) (r .root) d) ⊎ Nothing t (s .core .soFar) (r .root) → Begins g t src
+        pick (inr q) = absurd (some-none (a .set .at) (q src (record { station = given .station; below = r .below })))
+        pick (inl (d, l)) =
+            let x = expands (given .fits) {s = s .core} l (s .core .shelf) (λ y q. refl) (omega (arith, blank-children given blank (r .root))) in
+            record { state = entered s (r .root) 0 (x .base′) (x .count′) (x .h′); walk = begin (root (r .root) d (x .base′) (x .count′) (x .h′) blank (given .fits .inner (c .child) (r .root) (c .parent) .above) (r .below) (r .top) (x .expand)) }
+
+-- it goes on until it ends
+pub has-a-run : Every-source-has-a-run
+has-a-run g t src given limit =
+    let b = begins src given limit in
+    run (suc (22 * t .stations + 2 * in-service g)) 0 (b .state) (b .walk) (omega arith)
+  where
+    run : (fuel k : ℕ) (s : State) → Walk g t src k s → k + fuel ≡ suc (22 * t .stations + 2 * in-service g) → Runs-to g t src
+    run zero k s w e = absurd (omega (arith, ends g t src k s given w))
+    run (suc fuel) k s w e = go (goes-on g t src k s given limit w) (λ s₁ w₁. run fuel (suc k) s₁ w₁ (omega arith))
+      where
+        go : (s .frames ≡ []) ⊎ Next g t s → ((s₁ : State) → Walk g t src (suc k) s₁ → Runs-to g t src) → Runs-to g t src
+        go (inl z) later = record { state = s; run = record { steps = k; walk = w; over = z } }
+        go (inr n) later = later (n .to) (then w (n .step))
