@@ -17,7 +17,7 @@ use Rattle.walk.specs.State.{Shelf, Core, State}
 use Rattle.walk.specs.Rules.{Lowest, Nothing, Call, called, Links, begun, next}
 use Rattle.walk.specs.Steps.{Open, Going, Now, Taken, Ended, risen, Visiting, Blank, alone, root, visit, expand, again, rise, leave, end, Walk, begin, then, coarse, entered, left, risen-to}
 use Rattle.walk.specs.Steps as steps
-use Rattle.walk.specs.Laws.{Given, Next, Runs-to, Every-walk-goes-on, Every-source-has-a-run, most-moves, in-service}
+use Rattle.walk.specs.Laws.{Given, Next, Next-by, Runs-to, Every-walk-goes-on, Every-source-has-a-run, most-moves, in-service}
 use Rattle.walk.proofs.Invariant.{Expanded, Inv}
 use Rattle.walk.proofs.Keep.{Change, change, top-expanded, the-stack}
 use Rattle.walk.proofs.Take.{New, Again, item}
@@ -100,19 +100,23 @@ module _ {g : Network} {t : Tree} {src : ℕ} (given : Given g t src) (limit : m
           let l = follow (given .fits) (z .facts) n (ap (λ (a : ℕ → Option ℕ). a c) (z .final) ∙ v .call .final .at) {k = k} (omega (arith, moves-little g t src j s given w .between c d k (r .0) v)) h in
           (l .to, next-link v (l .link))
 
-      takes : New t (s .core) (f .node) c ⊎ Again t (s .core) (s .frames) (i .lim) (f .node) c → Dec (c < t .stations) → Next g t s
+      takes : New t (s .core) (f .node) c ⊎ Again t (s .core) (s .frames) (i .lim) (f .node) c → Dec (c < t .stations) → Next-by g t s c
       takes (inr a) (yes n) = absurd (omega (arith, i .facts .grown .inner c (a .expanded .start) (a .expanded .based) .above))
       takes (inr a) (no n) =
-          record { to = entered s c (coarse t c (f .node) (s .core .count c)) (s .core .base) (s .core .count) h′; step = again f fs c (a .expanded .start) h′ ef going tk (omega arith) (a .expanded .based) }
+          record { next = record { to = entered s c (coarse t c (f .node) (s .core .count c)) (s .core .base) (s .core .count) h′; step = again f fs c (a .expanded .start) h′ ef going tk (omega arith) (a .expanded .based) }; item = refl }
       takes (inl a) (no n) =
           let x = expands (given .fits) {s = s .core} (a .lowest) h′ (λ y q. tk .off .off y (λ z. above-other (given .fits) q self z) ∙ child-free (given .fits) (i .facts) q (a .shut))
                     (omega (arith, tk .puts, children-few given w c (a .shut))) in
-          record { to = entered s c (coarse t c (f .node) (x .count′ c)) (x .base′) (x .count′) (x .h′); step = expand f fs c (a .least) h′ (x .base′) (x .count′) (x .h′) ef going tk (omega arith) (a .shut) (x .expand) }
+          record { next = record { to = entered s c (coarse t c (f .node) (x .count′ c)) (x .base′) (x .count′) (x .h′);
+              step = expand f fs c (a .least) h′ (x .base′) (x .count′) (x .h′) ef going tk (omega arith) (a .shut) (x .expand) }; item = refl }
       takes (inl a) (yes n) =
           let nf = change (s .core .final) c (Some (a .least)) in
           let ns = change (s .core .soFar) c None in
           let r = visits n (record { known = ap (s .core .soFar) (sym (station-only (given .fits) n (a .lowest .inside .below))) ∙ a .lowest .known; final = nf .set; soFar = ns .set }) (length (g .rows)) (omega arith) in
-          record { to = record { core = r .0; frames = s .frames }; step = visit c (a .least) (r .0) (r .1) }
+          record { next = record { to = record { core = r .0; frames = s .frames }; step = visit c (a .least) (r .0) (r .1) }; item = refl }
+
+      pub by : Next-by g t s c
+      by = takes (item (given .fits) (i .facts) (going .more) tk) (decLt c (t .stations))
 
     going-there : Going t (s .core) f → Next g t s
     going-there going = look (find (λ c. s .core .shelf .bucket c ≡ Some (t .first (f .node) + k)) (λ c. is-some (s .core .shelf .bucket c) (t .first (f .node) + k)) (t .nodes))
@@ -127,7 +131,7 @@ module _ {g : Network} {t : Tree} {src : ℕ} (given : Given g t src) (limit : m
         small c (inl a) = node-of (given .fits) (a .parent)
         small c (inr a) = node-of (given .fits) (a .parent)
         look : ((c : ℕ) × (c < t .nodes) × (s .core .shelf .bucket c ≡ Some (t .first (f .node) + k))) ⊎ ((c : ℕ) → c < t .nodes → ¬ (s .core .shelf .bucket c ≡ Some (t .first (f .node) + k))) → Next g t s
-        look (inl r) = let tk = taken (r .0) (r .2) in takes going (tk .1) (item (given .fits) (i .facts) (going .more) (tk .1)) (decLt (r .0) (t .stations))
+        look (inl r) = by going (taken (r .0) (r .2) .1) .next
         look (inr n) =
             let a = change (s .core .count) (f .node) (suc (s .core .count (f .node))) in
             record { to = risen-to s (a .to); step = rise f fs k (a .to) ef going now (λ c e. n c (small c (item (given .fits) (i .facts) (going .more) (taken c e .1))) e) (a .set) }
@@ -144,7 +148,7 @@ module _ {g : Network} {t : Tree} {src : ℕ} (given : Given g t src) (limit : m
           ]
 
 pub goes-on : Every-walk-goes-on
-goes-on g t src k s given limit w = go (s .frames) refl
+goes-on g t src k s given limit w = record { here = go (s .frames) refl; taking = λ f fs c h ef going tk. by given limit w ef going tk }
   where
     go : (fs : List Frame) → s .frames ≡ fs → (s .frames ≡ []) ⊎ Next g t s
     go [] e = inl e
@@ -201,7 +205,7 @@ has-a-run g t src given limit =
   where
     run : (fuel k : ℕ) (s : State) → Walk g t src k s → k + fuel ≡ suc (22 * t .stations + 2 * in-service g) → Runs-to g t src
     run zero k s w e = absurd (omega (arith, ends g t src k s given w))
-    run (suc fuel) k s w e = go (goes-on g t src k s given limit w) (λ s₁ w₁. run fuel (suc k) s₁ w₁ (omega arith))
+    run (suc fuel) k s w e = go (goes-on g t src k s given limit w .here) (λ s₁ w₁. run fuel (suc k) s₁ w₁ (omega arith))
       where
         go : (s .frames ≡ []) ⊎ Next g t s → ((s₁ : State) → Walk g t src (suc k) s₁ → Runs-to g t src) → Runs-to g t src
         go (inl z) later = record { state = s; run = record { steps = k; walk = w; over = z } }

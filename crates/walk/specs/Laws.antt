@@ -1,6 +1,6 @@
 -- What every settling walk yields, whatever its takes hand over.
 use mathlib.Core.Path.{_≡_}
-use mathlib.Core.List.{[]}
+use mathlib.Core.List.{List, [], _∷_}
 use mathlib.Core.Bool.{false, cond}
 use mathlib.Core.Logic.{_⊎_}
 use Prim.Native.Nat.{ℕ, _+_, _*_, _≤_, _<_}
@@ -10,8 +10,9 @@ use Rattle.std.specs.declared.option.Option.the-variants.{Some, None}
 use Rattle.network.specs.Network.{Network, Least, NoRoute}
 use Rattle.tree.specs.Totals.{total}
 use Rattle.tree.specs.Tree.{Tree, Fits, Sized}
-use Rattle.walk.specs.State.{Core, State}
-use Rattle.walk.specs.Steps.{Visiting, Step, Walk}
+use Rattle.walk.specs.declared.frame.Frame.{Frame}
+use Rattle.walk.specs.State.{Shelf, Core, State}
+use Rattle.walk.specs.Steps.{Going, Taken, Visiting, Step, visit, expand, again, rise, leave, end, Walk}
 
 -- a tree of the network, and a source
 pub record Given (g : Network) (t : Tree) (source : ℕ) : Type 0 where
@@ -67,14 +68,32 @@ Every-walk-moves-enough = (g : Network) (t : Tree) (source k : ℕ) (s : State) 
 abbrev pub Every-walk-ends : Type 0
 Every-walk-ends = (g : Network) (t : Tree) (source k : ℕ) (s : State) → Given g t source → Walk g t source k s → k ≤ 22 * t .stations + 2 * in-service g
 
+-- the item that a step takes
+abbrev pub item-of : {g : Network} {t : Tree} {s s₁ : State} → Step g t s s₁ → Option ℕ
+item-of (visit v d s₁ vis) = Some v
+item-of (expand f fs c d h base′ count′ h′ top going taken inner shut ex) = Some c
+item-of (again f fs c β h top going taken inner based) = Some c
+item-of (rise f fs k count′ top going now bare set) = None
+item-of (leave f fs p b h′ top ended parent belongs placed) = None
+item-of (end f fs top ended root) = None
+
 -- the state s has a next one
 pub record Next (g : Network) (t : Tree) (s : State) : Type 0 where
   pub to : State
   pub step : Step g t s to
 
--- no walk gets stuck, on a put that the shelf refuses or otherwise: it is at its end, or has a next step
+-- it has one by taking c
+pub record Next-by (g : Network) (t : Tree) (s : State) (c : ℕ) : Type 0 where
+  pub next : Next g t s
+  pub item : item-of (next .step) ≡ Some c
+
+-- a walk is at its end or has a next step, and whatever take hands over, it goes on with that: no put in between is refused
+pub record Goes-on (g : Network) (t : Tree) (s : State) : Type 0 where
+  pub here : (s .frames ≡ []) ⊎ Next g t s
+  pub taking : (f : Frame) (fs : List Frame) (c : ℕ) (h : Shelf) → s .frames ≡ f ∷ fs → Going t (s .core) f → Taken t (s .core) (f .node) c h → Next-by g t s c
+
 abbrev pub Every-walk-goes-on : Type 0
-Every-walk-goes-on = (g : Network) (t : Tree) (source k : ℕ) (s : State) → Given g t source → most-moves g t < 65535 → Walk g t source k s → (s .frames ≡ []) ⊎ Next g t s
+Every-walk-goes-on = (g : Network) (t : Tree) (source k : ℕ) (s : State) → Given g t source → most-moves g t < 65535 → Walk g t source k s → Goes-on g t s
 
 pub record Runs-to (g : Network) (t : Tree) (source : ℕ) : Type 0 where
   pub state : State
