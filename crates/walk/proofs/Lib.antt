@@ -1,6 +1,7 @@
 pub mod Credit
 pub mod Enter
 pub mod Follow
+pub mod Handover
 pub mod Invariant
 pub mod Keep
 pub mod Leave
@@ -12,6 +13,7 @@ pub mod Pass
 pub mod Progress
 pub mod Ready
 pub mod Rise
+pub mod Runs
 pub mod Settle
 pub mod Start
 pub mod Take

@@ -16,6 +16,7 @@ use Rattle.tree.proofs.Words.{some-none, same-some}
 use Rattle.walk.specs.declared.frame.Frame.{Frame}
 use Rattle.walk.specs.State.{Core}
 use Rattle.walk.specs.Rules.{Lowest, Nothing, Falls, Belongs, falls, unknown, within, past, Granted, Front}
+use Rattle.walk.specs.Able.{Fronted}
 use Rattle.walk.proofs.Lines.{suc-line, line-mono, line-lt, width-pos}
 use Rattle.walk.proofs.Invariant.{On, Expanded, Standing, loose, fresh, visiting, through, waiting, Facts}
 use Rattle.walk.proofs.Keep.{top-expanded, the-stack}
@@ -93,11 +94,6 @@ granted fits few (unknown a z) e = absurd (some-none e z)
 granted fits few (falls x j f (past l z)) e = absurd (some-none e z)
 granted {t = t} fits {c = c} few (falls x j f (within l z)) e =
     record { item = node-of fits (f .parent); bucket = omega (arith, same-some z e, exists fits j (fits .inner c x (f .parent)) l); few = few }
-
--- the unexpanded node that holds u and whose parent is expanded
-pub record Fronted (t : Tree) (base : ℕ → Option ℕ) (u : ℕ) : Type 0 where
-  pub c : ℕ
-  pub front : Front t base u c
 
 module _ {g : Network} {t : Tree} (fits : Fits g t) {src : ℕ} {s : Core} {fs : List Frame} {lim : ℕ → ℕ} (facts : Facts g t src s fs lim) where
 

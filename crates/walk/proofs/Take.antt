@@ -60,6 +60,7 @@ pub record Again (t : Tree) (s : Core) (fs : List Frame) (lim : ℕ → ℕ) (x 
   pub parent : t .parent c ≡ Some x
   pub expanded : Expanded (s .base) c
   pub off : ¬ On fs c
+  pub more : Open t (s .final) c
   pub level : line t (s .count) c ≡ line t (s .count) x
   pub limit : lim c ≡ line t (s .count) c
 
@@ -73,7 +74,7 @@ pub record Due (t : Tree) (soFar : ℕ → Option ℕ) (lim : ℕ → ℕ) (x : 
 
 module _ {g : Network} {t : Tree} (fits : Fits g t) {src : ℕ} {s : Core} {fs : List Frame} {lim : ℕ → ℕ} (facts : Facts g t src s fs lim) where
 
-  early-route : {x β : ℕ} (r : Early t (s .final) (s .soFar) x β) → Attained g src (r .at) (r .d)
+  pub early-route : {x β : ℕ} (r : Early t (s .final) (s .soFar) x β) → Attained g src (r .at) (r .d)
   early-route r = elim (r .seen) [ inl h ↦ facts .delays .exact (r .at) (r .d) h .attained | inr h ↦ facts .delays .found (r .at) (r .d) h .attained ]
 
   -- while x is open, its counter has not passed its last bucket
@@ -128,7 +129,7 @@ module _ {g : Network} {t : Tree} (fits : Fits g t) {src : ℕ} {s : Core} {fs :
           let q = slot p k′ (fits .inner c p h) sl in
           let z : β′ ≡ tk .now .start = same-some b (ap (s .base) (q .0) ∙ tk .now .based) in
           let a : β′ + k′ ≡ s .count x = omega (arith, z, q .1, tk .now .spot) in
-          inr (record { parent = h ∙ ap Some (q .0); expanded = record { start = γ; based = d }; off = n;
+          inr (record { parent = h ∙ ap Some (q .0); expanded = record { start = γ; based = d }; off = n; more = op;
             level = sym l ∙ ap (λ y. (β′ + k′) * width t y) (q .0) ∙ ap (λ y. y * width t x) a; limit = w })
 
   -- a station that is handed over is at its least delay

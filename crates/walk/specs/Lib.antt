@@ -1,3 +1,4 @@
+pub mod Able
 pub mod Laws
 pub mod Rules
 pub mod State
