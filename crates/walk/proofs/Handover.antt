@@ -20,7 +20,7 @@ use Rattle.walk.specs.declared.frame.Frame.{Frame}
 use Rattle.walk.specs.State.{Shelf, Core, State, Changed}
 use Rattle.walk.specs.Rules.{Lowest, Nothing, Placed, Counted, nothing, Moved, there, moved, Front, Links, Call, called, Puts, done, put}
 use Rattle.walk.specs.Steps.{Open, Taken, Visiting, Blank, Walk}
-use Rattle.walk.specs.Laws.{Given, most-moves}
+use Rattle.walk.specs.Laws.{Given, most-moves, Every-walk-is-able}
 use Rattle.walk.specs.Able.{Ready, Apt, Able, Due-now}
 use Rattle.walk.proofs.Lines.{line-mono, suc-line, width-pos}
 use Rattle.walk.proofs.Invariant.{Expanded, line, Stack, empty, bottom, above, Facts, Inv}
@@ -182,3 +182,6 @@ module _ {g : Network} {t : Tree} {src : ℕ} (given : Given g t src) (limit : m
         go (f ∷ fs) st =
             let e = top-expanded st in
             omega (arith, deep st, given .fits .high (f .node) (i .facts .grown .inner (f .node) (e .start) (e .based)))
+
+pub is-able : Every-walk-is-able
+is-able g t src k s given limit w = record { able = λ f fs ef. able given limit w ef; apt = λ v d j s₁ vis. visiting-apt given limit w vis }

@@ -1,6 +1,7 @@
 pub mod Credit
 pub mod Enter
 pub mod Follow
+pub mod Free
 pub mod Handover
 pub mod Invariant
 pub mod Keep

@@ -12,7 +12,8 @@ use Rattle.tree.specs.Totals.{total}
 use Rattle.tree.specs.Tree.{Tree, Fits, Sized}
 use Rattle.walk.specs.declared.frame.Frame.{Frame}
 use Rattle.walk.specs.State.{Shelf, Core, State}
-use Rattle.walk.specs.Steps.{Going, Taken, Visiting, Step, visit, expand, again, rise, leave, end, Walk}
+use Rattle.walk.specs.Steps.{Going, Taken, Visiting, Begin, Step, visit, expand, again, rise, leave, end, Walk}
+use Rattle.walk.specs.Able.{Able, Apt}
 
 -- a tree of the network, and a source
 pub record Given (g : Network) (t : Tree) (source : ℕ) : Type 0 where
@@ -102,3 +103,19 @@ pub record Runs-to (g : Network) (t : Tree) (source : ℕ) : Type 0 where
 -- there is a run from every source
 abbrev pub Every-source-has-a-run : Type 0
 Every-source-has-a-run = (g : Network) (t : Tree) (source : ℕ) → Given g t source → most-moves g t < 65535 → Runs-to g t source
+
+-- the walk has no freedom but what take hands over: it starts in one way, and two steps from a state that take the same item, or none, lead to the same state
+pub record One-way (g : Network) (t : Tree) (source : ℕ) : Type 0 where
+  pub start : (s s′ s₁ s₂ : State) → Begin g t source s s₁ → Begin g t source s′ s₂ → s₁ ≡ s₂
+  pub step : (k : ℕ) (s s₁ s₂ : State) → Walk g t source k s → (p : Step g t s s₁) (q : Step g t s s₂) → item-of p ≡ item-of q → s₁ ≡ s₂
+
+abbrev pub Take-alone-is-free : Type 0
+Take-alone-is-free = (g : Network) (t : Tree) (source : ℕ) → Given g t source → One-way g t source
+
+-- what a walk may rely on as it goes on: before each step, and before it follows each link of a station that it visits
+pub record Relies (g : Network) (t : Tree) (s : State) : Type 0 where
+  pub able : (f : Frame) (fs : List Frame) → s .frames ≡ f ∷ fs → Able t (s .core) f
+  pub apt : (v d k : ℕ) (s₁ : Core) → Visiting g t s v d k s₁ → Apt g t s₁ v d k
+
+abbrev pub Every-walk-is-able : Type 0
+Every-walk-is-able = (g : Network) (t : Tree) (source k : ℕ) (s : State) → Given g t source → most-moves g t < 65535 → Walk g t source k s → Relies g t s
