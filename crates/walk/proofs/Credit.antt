@@ -18,8 +18,8 @@ use Rattle.tree.proofs.Nodes.{node-of}
 use Rattle.tree.proofs.Totals.{total-mono, total-ones, total-changed}
 use Rattle.tree.proofs.Words.{some-none, same-some}
 use Rattle.walk.specs.declared.frame.Frame.{Frame}
-use Rattle.walk.specs.State.{Shelf, Core}
-use Rattle.walk.specs.Rules.{nothing, one, Moved, there, moved, Link, skip, keep, lower, Links, begun, next, Call, called, put}
+use Rattle.walk.specs.State.{Shelf, Core, lowered, called}
+use Rattle.walk.specs.Rules.{nothing, one, Moved, there, moved, Link, skip, keep, lower, Links, begun, next, Call, put}
 use Rattle.walk.specs.Steps.{root, end, coarse, left}
 use Rattle.walk.specs.Laws.{in-service, most-moves}
 use Rattle.walk.proofs.Lines.{bucket-add}
@@ -128,7 +128,7 @@ module _ {g : Network} {t : Tree} {fs : List Frame} {v d : ℕ} where
   credit-link seen c (keep u y j n e l) = record { first = c .first; more = c .more; paid = c .paid; puts = c .puts; firsts = c .firsts; mores = c .mores; pays = pays-on (c .pays) }
   credit-link {k} {s} seen c (lower u x b soFar′ h′ j n nearer low front bel move) = go move
     where
-      free : h′ .puts ≡ s .shelf .puts → Credit g t (record { final = s .final; soFar = soFar′; base = s .base; count = s .count; shelf = h′ }) fs v (suc k)
+      free : h′ .puts ≡ s .shelf .puts → Credit g t (lowered s soFar′ h′) fs v (suc k)
       free e = record { first = c .first; more = c .more; paid = c .paid; puts = omega (arith, c .puts, e); firsts = c .firsts; mores = c .mores; pays = pays-on (c .pays) }
       -- the link has not paid yet
       unpaid : (c .paid k ≡ 0) ⊎ Seen g (s .final) v k k → c .paid k ≡ 0
@@ -136,7 +136,7 @@ module _ {g : Network} {t : Tree} {fs : List Frame} {v d : ℕ} where
       unpaid (inr z) = elim (either-end j (z .over)) [ inl r ↦ absurd (omega (arith, z .followed r)) | inr r ↦ absurd (some-none (ap (s .final) (sym r) ∙ z .visited) n) ]
       p : Change (c .paid) k 1
       p = change (c .paid) k 1
-      go : Moved t x b (s .shelf) h′ → Credit g t (record { final = s .final; soFar = soFar′; base = s .base; count = s .count; shelf = h′ }) fs v (suc k)
+      go : Moved t x b (s .shelf) h′ → Credit g t (lowered s soFar′ h′) fs v (suc k)
       go (there a e) = free (ap (λ (z : Shelf). z .puts) e)
       go (moved a set (nothing q e)) = free e
       go (moved a set (one b′ q gr e)) =

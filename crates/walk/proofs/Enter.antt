@@ -12,7 +12,7 @@ use Rattle.tree.specs.Tree.{Tree, Below, self, up, In, Inner, Fits, width}
 use Rattle.tree.proofs.Nodes.{above-other}
 use Rattle.tree.proofs.Words.{some-none, same-some}
 use Rattle.walk.specs.declared.frame.Frame.{Frame}
-use Rattle.walk.specs.State.{Shelf, Core, Changed}
+use Rattle.walk.specs.State.{Shelf, Core, Changed, grown}
 use Rattle.walk.specs.Rules.{Expand}
 use Rattle.walk.specs.Steps.{Open, coarse, entered}
 use Rattle.walk.proofs.Lines.{bucket-high, width-pos}
@@ -47,7 +47,7 @@ module _ {g : Network} {t : Tree} (fits : Fits g t) {src : ℕ} {s : Core} {fs :
     again-nested y β p e o h (no z) = omega (arith, lift .off y z, facts .limits .nested y β p e o h, lim-up p)
 
     again-stands : (y : ℕ) → Dec (y ≡ c) → Standing t s fs lim y (s .shelf .bucket y)
-      → Standing t (entered (record { core = s; frames = fs }) c began (s .base) (s .count) h′ .core) (record { node = c; began = began } ∷ fs) lim′ y (h′ .bucket y)
+      → Standing t (grown s (s .base) (s .count) h′) (record { node = c; began = began } ∷ fs) lim′ y (h′ .bucket y)
     again-stands y (yes z) st = visiting (inl z) (ap (h′ .bucket) z ∙ set .at)
     again-stands y (no z) (loose h e) = loose h (set .off y z ∙ e)
     again-stands y (no z) (fresh p β h b n bel) = fresh p β h b n (belongs-at (set .off y z) bel)
@@ -55,7 +55,7 @@ module _ {g : Network} {t : Tree} (fits : Fits g t) {src : ℕ} {s : Core} {fs :
     again-stands y (no z) (through h a e) = through h a (set .off y z ∙ e)
     again-stands y (no z) (waiting p β δ j h b d n op l m w sl) = waiting p β δ j h b d (elim [ inl q ↦ z q | inr q ↦ n q ]) op l m (lift .off y z ∙ w) (slot-at (set .off y z) sl)
 
-    pub again-facts : Facts g t src (entered (record { core = s; frames = fs }) c began (s .base) (s .count) h′ .core) (record { node = c; began = began } ∷ fs) lim′
+    pub again-facts : Facts g t src (grown s (s .base) (s .count) h′) (record { node = c; began = began } ∷ fs) lim′
     again-facts =
         record {
           delays = facts .delays;
@@ -156,30 +156,30 @@ module _ {g : Network} {t : Tree} (fits : Fits g t) {src : ℕ} {s : Core} {fs :
     shut-child {y} q (Some β) e = absurd (other (facts .grown .upward y β c e q .based) refl)
 
     stands′ : (y : ℕ) → Dec (y ≡ c) → (o : Option ℕ) → t .parent y ≡ o → Standing t s fs lim y (s .shelf .bucket y)
-      → Standing t (entered (record { core = s; frames = fs }) c began base′ count′ h′ .core) (record { node = c; began = began } ∷ fs) lim′ y (h′ .bucket y)
+      → Standing t (grown s base′ count′ h′) (record { node = c; began = began } ∷ fs) lim′ y (h′ .bucket y)
     stands′ y (yes z) o q st = visiting (inl z) (ap (h′ .bucket) z ∙ puts-off c (λ a. above-other fits (fits .child c c a) self refl) (ex .puts) ∙ taken .at)
     stands′ y (no z) o q st = pick o q
       where
-        plain : t .parent y ≢ Some c → Standing t (entered (record { core = s; frames = fs }) c began base′ count′ h′ .core) (record { node = c; began = began } ∷ fs) lim′ y (h′ .bucket y)
+        plain : t .parent y ≢ Some c → Standing t (grown s base′ count′ h′) (record { node = c; began = began } ∷ fs) lim′ y (h′ .bucket y)
         plain n = go st
           where
             same : h′ .bucket y ≡ s .shelf .bucket y
             same = puts-off y (λ a. n (fits .child c y a)) (ex .puts) ∙ taken .off y z
-            go : Standing t s fs lim y (s .shelf .bucket y) → Standing t (entered (record { core = s; frames = fs }) c began base′ count′ h′ .core) (record { node = c; began = began } ∷ fs) lim′ y (h′ .bucket y)
+            go : Standing t s fs lim y (s .shelf .bucket y) → Standing t (grown s base′ count′ h′) (record { node = c; began = began } ∷ fs) lim′ y (h′ .bucket y)
             go (loose q e) = loose (λ p r. ex .base .off p (λ w. n (r ∙ ap Some w)) ∙ q p r) (same ∙ e)
             go (fresh p β q b m bel) = fresh p β q (kept p β b) (ex .base .off y z ∙ m) (belongs-keep (λ u i. refl) kept (belongs-at same bel))
             go (visiting o e) = visiting (inr o) (same ∙ e)
             go (through q a e) = through (kept-expanded q) a (same ∙ e)
             go (waiting p β δ j q b e m op l k w sl) =
                 waiting p β δ j q (kept p β b) (kept y δ e) (elim [ inl r ↦ z r | inr r ↦ m r ]) op (l ∙ sym (same-line y z)) (omega (arith, k, ex .count .off p (other b))) (lift .off y z ∙ w ∙ sym (same-line y z)) (slot-at same sl)
-        pick : (o : Option ℕ) → t .parent y ≡ o → Standing t (entered (record { core = s; frames = fs }) c began base′ count′ h′ .core) (record { node = c; began = began } ∷ fs) lim′ y (h′ .bucket y)
+        pick : (o : Option ℕ) → t .parent y ≡ o → Standing t (grown s base′ count′ h′) (record { node = c; began = began } ∷ fs) lim′ y (h′ .bucket y)
         pick None q = plain (λ r. some-none r q)
         pick (Some p) q = elim (ℕ-discrete p c) [
             yes r ↦ (let q′ : t .parent y ≡ Some c = q ∙ ap Some r in fresh c (d / width t c) q′ (ex .base .at) (ex .base .off y z ∙ shut-child q′ (s .base y) refl) (puts-at y (fits .once c) (fits .listed c y q′) (ex .puts)))
           | no r ↦ plain (λ w. r (same-some q w))
           ]
 
-    pub expand-facts : Facts g t src (entered (record { core = s; frames = fs }) c began base′ count′ h′ .core) (record { node = c; began = began } ∷ fs) lim′
+    pub expand-facts : Facts g t src (grown s base′ count′ h′) (record { node = c; began = began } ∷ fs) lim′
     expand-facts =
         record {
           delays = facts .delays;

@@ -16,8 +16,8 @@ use Rattle.tree.proofs.Laws-of-routes.{other-end}
 use Rattle.tree.proofs.Nodes.{in-parent}
 use Rattle.tree.proofs.Words.{some-none, same-some}
 use Rattle.walk.specs.declared.frame.Frame.{Frame}
-use Rattle.walk.specs.State.{Shelf, Core, Changed}
-use Rattle.walk.specs.Rules.{Lowest, Belongs, Counted, nothing, one, Placed, Moved, there, moved, Front, Link, skip, keep, lower, next, lowered, Puts, done, put, Expand}
+use Rattle.walk.specs.State.{Shelf, Core, Changed, lowered, counted}
+use Rattle.walk.specs.Rules.{Lowest, Belongs, Counted, nothing, one, Placed, Moved, there, moved, Front, Link, skip, keep, lower, next, Puts, done, put, Expand}
 use Rattle.walk.proofs.Invariant.{Found, Facts}
 use Rattle.walk.proofs.Keep.{Change, change}
 use Rattle.walk.proofs.Look.{found′}

@@ -1,21 +1,20 @@
 -- Nothing is left free but what take hands over: two steps from a state that take the same item lead to the same state.
 use mathlib.Core.Path.{_≡_, refl, sym, ap, subst, _∙_, fun-ext}
-use mathlib.Core.List.{List, [], _∷_}
-use mathlib.Core.Logic.{_⊎_, inl, inr, _≢_}
-use Prim.Native.Nat.{ℕ, zero, suc, _+_, _*_, _/_, _≤_, _<_}
+use mathlib.Core.List.{List, _∷_}
+use Prim.Native.Nat.{ℕ, suc, _+_, _/_, _<_}
 use native.Mathlib.Omega.{arith}
 use native.Mathlib.Decide.{ℕ-discrete}
 use lib.ListN.{length}
 use Rattle.std.specs.declared.option.Option.{Option}
-use Rattle.std.specs.declared.option.Option.the-variants.{Some, None}
+use Rattle.std.specs.declared.option.Option.the-variants.{Some}
 use Rattle.network.specs.Network.{Network, delay}
 use Rattle.tree.specs.Tree.{Tree, Below, Fits, width}
 use Rattle.tree.proofs.Laws-of-routes.{other-end}
 use Rattle.tree.proofs.Words.{some-none, same-some}
 use Rattle.walk.specs.declared.frame.Frame.{Frame}
-use Rattle.walk.specs.State.{Shelf, Core, State, Changed}
-use Rattle.walk.specs.Rules.{Lowest, Nothing, Falls, Belongs, falls, unknown, Slot, within, past, Counted, nothing, one, Placed, Moved, there, moved, Link, skip, keep, lower, Links, begun, next, lowered, Call, called, Puts, done, put, Expand}
-use Rattle.walk.specs.Steps.{Going, Taken, Ended, Visiting, Blank, Begin, alone, root, Step, visit, expand, again, rise, leave, end, coarse, entered, left, risen-to}
+use Rattle.walk.specs.State.{Shelf, Core, State, Changed, lowered, called, counted}
+use Rattle.walk.specs.Rules.{Nothing, Belongs, falls, unknown, Slot, within, past, Counted, nothing, one, Placed, Moved, there, moved, Link, skip, keep, lower, Links, begun, next, Puts, done, put, Expand}
+use Rattle.walk.specs.Steps.{Going, Taken, Ended, Visiting, Blank, Begin, alone, root, Step, visit, expand, again, rise, leave, end, coarse, entered, left}
 use Rattle.walk.specs.Laws.{item-of, Take-alone-is-free}
 use Rattle.walk.specs.Steps as steps
 use Rattle.walk.proofs.Invariant.{Facts, LookedTo, Inv}
@@ -171,7 +170,7 @@ module _ {g : Network} {t : Tree} (fits : Fits g t) {src : ℕ} {s : State} (i :
       same-c = same-some refl z
       same-h : h ≡ h′
       same-h = taken-one tk (subst (λ c. Taken t (s .core) (f′ .node) c h′) (sym same-c) tk′)
-  step-one (rise f fs k count₁ top going now bare set) (rise f′ fs′ k′ count₂ top′ going′ now′ bare′ set′) z = λ i. risen-to s (same i)
+  step-one (rise f fs k count₁ top going now bare set) (rise f′ fs′ k′ count₂ top′ going′ now′ bare′ set′) z = λ i. record { core = counted (s .core) (same i); frames = s .frames }
     where
       same : count₁ ≡ count₂
       same = changed-one set (subst (λ (f : Frame). Changed (s .core .count) (f .node) (suc (s .core .count (f .node))) count₂) (top-one top top′) set′)

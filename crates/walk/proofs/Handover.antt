@@ -1,8 +1,8 @@
 -- For code that walks: how it builds a walk, and what it may rely on at every state that a walk comes to.
 use mathlib.Core.Path.{_≡_, refl, sym, ap, subst, _∙_}
 use mathlib.Core.List.{List, [], _∷_, _++_}
-use mathlib.Core.Logic.{_⊎_, inl, inr, _≢_}
-use Prim.Native.Nat.{ℕ, suc, _+_, _-_, _*_, _/_, _≤_, _<_}
+use mathlib.Core.Logic.{_⊎_, inl, inr}
+use Prim.Native.Nat.{ℕ, suc, _+_, _-_, _/_, _≤_, _<_}
 use native.Mathlib.Omega.{arith}
 use native.Mathlib.Decide.{ℕ-discrete, decLt}
 use native.Mathlib.Nat.{mul-comm}
@@ -11,21 +11,21 @@ use lib.Pow.{shr-mono}
 use Rattle.std.specs.declared.option.Option.{Option}
 use Rattle.std.specs.declared.option.Option.the-variants.{Some, None}
 use Rattle.network.specs.Network.{Network, Route, here, Hop, Attained, Least, sum, delay}
-use Rattle.tree.specs.Tree.{Tree, Below, In, Inner, Near, Fits, width}
+use Rattle.tree.specs.Tree.{Tree, Below, Inner, Near, Fits, width}
 use Rattle.tree.proofs.Laws-of-routes.{join}
 use Rattle.tree.proofs.Nodes.{in-parent, nest, root-top, rooted, holder, below-inner, station-only}
 use Rattle.tree.proofs.Routes.{stay, route-ends}
-use Rattle.tree.proofs.Words.{some-none, same-some}
+use Rattle.tree.proofs.Words.{some-none}
 use Rattle.walk.specs.declared.frame.Frame.{Frame}
-use Rattle.walk.specs.State.{Shelf, Core, State, Changed}
-use Rattle.walk.specs.Rules.{Lowest, Nothing, Placed, Counted, nothing, Moved, there, moved, Front, Links, Call, called, Puts, done, put}
-use Rattle.walk.specs.Steps.{Open, Taken, Visiting, Blank, Walk}
+use Rattle.walk.specs.State.{Shelf, Core, State, Changed, called, counted}
+use Rattle.walk.specs.Rules.{Lowest, Placed, nothing, Moved, there, moved, Front, Links, Call, Puts, done, put}
+use Rattle.walk.specs.Steps.{Open, Visiting, Blank, Walk}
 use Rattle.walk.specs.Laws.{Given, most-moves, Every-walk-is-able}
 use Rattle.walk.specs.Able.{Ready, Apt, Able, Due-now}
 use Rattle.walk.proofs.Lines.{line-mono, suc-line, width-pos}
-use Rattle.walk.proofs.Invariant.{Expanded, line, Stack, empty, bottom, above, Facts, Inv}
+use Rattle.walk.proofs.Invariant.{Expanded, Stack, bottom, above, Facts, Inv}
 use Rattle.walk.proofs.Keep.{change, top-expanded, the-stack}
-use Rattle.walk.proofs.Look.{Looking, found′}
+use Rattle.walk.proofs.Look.{found′}
 use Rattle.walk.proofs.Take.{early-route, in-room, due, New, Again, item}
 use Rattle.walk.proofs.Visit.{visiting-looking}
 use Rattle.walk.proofs.Start.{alone-looking}

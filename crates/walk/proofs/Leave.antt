@@ -13,7 +13,7 @@ use Rattle.tree.proofs.Nodes.{root-same, above-other}
 use Rattle.tree.proofs.Routes.{wider}
 use Rattle.tree.proofs.Words.{some-none, same-some}
 use Rattle.walk.specs.declared.frame.Frame.{Frame}
-use Rattle.walk.specs.State.{Shelf, Core, State, Changed}
+use Rattle.walk.specs.State.{Shelf, Core, State, Changed, grown, shelved}
 use Rattle.walk.specs.Rules.{Lowest, Belongs, falls, unknown, Placed}
 use Rattle.walk.specs.Steps.{Open, Ended, coarse, left}
 use Rattle.walk.specs.Steps as steps
@@ -76,7 +76,7 @@ module _ {g : Network} {t : Tree} (fits : Fits g t) {src : ℕ} {s : Core} {fs :
   module _ (h′ : Shelf) where
 
     -- x, whose visit has ended, stands where it belongs
-    again : {p : ℕ} {b b′ : Option ℕ} → t .parent (f .node) ≡ Some p → b′ ≡ b → Belongs t (s .soFar) (s .base) (f .node) b → Standing t (left (record { core = s; frames = fs }) h′ gs .core) gs lim (f .node) b′
+    again : {p : ℕ} {b b′ : Option ℕ} → t .parent (f .node) ≡ Some p → b′ ≡ b → Belongs t (s .soFar) (s .base) (f .node) b → Standing t (shelved s h′) gs lim (f .node) b′
     again up-p z (unknown a e) = through expanded (λ o. let r = due fits facts looked (f .node) (expanded .start) (expanded .based) o in some-none (r .known) (a (r .u) (r .inside))) (z ∙ e)
     again {p} up-p z (falls x k l sl) =
         let same : x ≡ p = same-some (l .parent) up-p in
@@ -90,22 +90,22 @@ module _ {g : Network} {t : Tree} (fits : Fits g t) {src : ℕ} {s : Core} {fs :
         off o = let q = on-above stack o in above-other fits (q .1) (q .2) refl
 
     -- the others stand as they did
-    others : {b b′ : Option ℕ} (c : ℕ) → c ≢ f .node → b′ ≡ b → Standing t s fs lim c b → Standing t (left (record { core = s; frames = fs }) h′ gs .core) gs lim c b′
+    others : {b b′ : Option ℕ} (c : ℕ) → c ≢ f .node → b′ ≡ b → Standing t s fs lim c b → Standing t (shelved s h′) gs lim c b′
     others c n z (loose h e) = loose h (z ∙ e)
     others c n z (fresh p β h b m bel) = fresh p β h b m (belongs-at z bel)
     others c n z (visiting o e) = visiting (elim (subst (λ a. On a c) ef o) [ inl q ↦ absurd (n q) | inr q ↦ q ]) (z ∙ e)
     others c n z (through h a e) = through h a (z ∙ e)
     others c n z (waiting p β γ j h b d m op l k w sl) = waiting p β γ j h b d (λ o. m (subst (λ a. On a c) (sym ef) (inr o))) op l k w (slot-at z sl)
 
-    pub left-facts : ((c : ℕ) → Standing t (left (record { core = s; frames = fs }) h′ gs .core) gs lim c (h′ .bucket c)) → Facts g t src (left (record { core = s; frames = fs }) h′ gs .core) gs lim
+    pub left-facts : ((c : ℕ) → Standing t (shelved s h′) gs lim c (h′ .bucket c)) → Facts g t src (shelved s h′) gs lim
     left-facts stands′ =
         record { delays = facts .delays; grown = facts .grown; early = facts .early; limits = facts .limits; stands = stands′; stack = pop stack; top = λ h hs e. next-top stack e }
 
     pub leave-facts : {p : ℕ} {b : Option ℕ} → t .parent (f .node) ≡ Some p → Belongs t (s .soFar) (s .base) (f .node) b → Changed (s .shelf .bucket) (f .node) b (h′ .bucket)
-      → Facts g t src (left (record { core = s; frames = fs }) h′ gs .core) gs lim
+      → Facts g t src (shelved s h′) gs lim
     leave-facts up-p bel set = left-facts (λ c. stands′ c (ℕ-discrete c (f .node)))
       where
-        stands′ : (c : ℕ) → Dec (c ≡ f .node) → Standing t (left (record { core = s; frames = fs }) h′ gs .core) gs lim c (h′ .bucket c)
+        stands′ : (c : ℕ) → Dec (c ≡ f .node) → Standing t (shelved s h′) gs lim c (h′ .bucket c)
         stands′ c (yes z) = rw z (again up-p (set .at) bel)
         stands′ c (no z) = others c z (set .off c z) (facts .stands c)
 
@@ -139,6 +139,6 @@ end-step {g} {t} fits {src} {s} {f} {fs} i ef ended h =
     nowhere (visiting o e) = e
     nowhere (through k a e) = e
     nowhere (waiting p β γ j k q d n op l m w sl) = absurd (some-none k h)
-    stands′ : (c : ℕ) → Dec (c ≡ f .node) → Standing t (left s (s .core .shelf) fs .core) fs (i .lim) c (s .core .shelf .bucket c)
+    stands′ : (c : ℕ) → Dec (c ≡ f .node) → Standing t (shelved (s .core) (s .core .shelf)) fs (i .lim) c (s .core .shelf .bucket c)
     stands′ c (yes z) = rw z (loose (λ p e. absurd (some-none e h)) (nowhere (i .facts .stands (f .node))))
     stands′ c (no z) = others fits (i .facts) (i .looked) ef ended (s .core .shelf) c z refl (i .facts .stands c)

@@ -17,9 +17,9 @@ use Rattle.tree.proofs.Routes.{stay}
 use Rattle.tree.proofs.Totals.{total-mono, total-zero, total-longer, total-changed}
 use Rattle.tree.proofs.Words.{some-none, same-some}
 use Rattle.walk.specs.declared.frame.Frame.{Frame}
-use Rattle.walk.specs.State.{Shelf, Core, State, Changed}
-use Rattle.walk.specs.Rules.{Counted, nothing, one, Moved, there, moved, Link, skip, keep, lower, Links, begun, next, Call, called, Puts, done, put, Expand}
-use Rattle.walk.specs.Steps.{Going, Now, Taken, Blank, Begin, alone, root, Step, visit, expand, again, rise, leave, end, Walk, begin, then, entered, left, risen-to}
+use Rattle.walk.specs.State.{Shelf, Core, State, Changed, called, counted}
+use Rattle.walk.specs.Rules.{Counted, nothing, one, Moved, there, moved, Link, skip, keep, lower, Links, begun, next, Call, Puts, done, put, Expand}
+use Rattle.walk.specs.Steps.{Going, Now, Taken, Blank, Begin, alone, root, Step, visit, expand, again, rise, leave, end, Walk, begin, then, entered, left}
 use Rattle.walk.specs.Laws.{Every-walk-ends, Every-walk-moves-enough, reached}
 use Rattle.walk.specs.Laws as laws
 use Rattle.walk.proofs.Invariant.{Inv}
@@ -150,7 +150,7 @@ expand-rises {s = s} {x = x} {base′ = base′} {count′ = count′} {rises = 
     }
 
 -- the counter of x rises
-rise-ledger : {t : Tree} {s : State} {k x j : ℕ} {count′ : ℕ → ℕ} → x < t .nodes → Now (s .core) x j → Changed (s .core .count) x (suc (s .core .count x)) count′ → Ledger t s k → Ledger t (risen-to s count′) (suc k)
+rise-ledger : {t : Tree} {s : State} {k x j : ℕ} {count′ : ℕ → ℕ} → x < t .nodes → Now (s .core) x j → Changed (s .core .count) x (suc (s .core .count x)) count′ → Ledger t s k → Ledger t (record { core = counted (s .core) count′; frames = s .frames }) (suc k)
 rise-ledger {t} {s} {k} {x} {j} {count′} small now set l =
     record { puts = l .puts; takes = l .takes; rises = r .to; stock = l .stock; seen = l .seen;
       risen = record {

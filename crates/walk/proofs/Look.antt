@@ -13,8 +13,8 @@ use Rattle.tree.proofs.Laws-of-routes.{one-more, other-end}
 use Rattle.tree.proofs.Routes.{ends}
 use Rattle.tree.proofs.Words.{same-some}
 use Rattle.walk.specs.declared.frame.Frame.{Frame}
-use Rattle.walk.specs.State.{Shelf, Core, Changed}
-use Rattle.walk.specs.Rules.{Front, Belongs, Moved, Link, skip, keep, lower, Links, begun, next, lowered}
+use Rattle.walk.specs.State.{Shelf, Core, Changed, lowered, grown}
+use Rattle.walk.specs.Rules.{Front, Belongs, Moved, Link, skip, keep, lower, Links, begun, next}
 use Rattle.walk.proofs.Invariant.{Found, Known, Early, Standing, loose, fresh, visiting, through, waiting, Facts, LookedTo}
 use Rattle.walk.proofs.Keep.{slot-at, belongs-at, belongs-keep, moved-set, front-one}
 

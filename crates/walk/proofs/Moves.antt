@@ -16,9 +16,9 @@ use Rattle.tree.proofs.Nodes.{node-of, above-other}
 use Rattle.tree.proofs.Totals.{total-changed}
 use Rattle.tree.proofs.Words.{some-none, same-some}
 use Rattle.walk.specs.declared.frame.Frame.{Frame}
-use Rattle.walk.specs.State.{Shelf, Core, State, Changed}
-use Rattle.walk.specs.Rules.{Belongs, falls, unknown, Counted, nothing, one, there, Links, Call, called, Puts, done, put, Expand}
-use Rattle.walk.specs.Steps.{Ended, Visiting, Blank, Begin, alone, root, Step, visit, expand, again, rise, leave, end, Walk, begin, then, coarse, entered, left, risen-to}
+use Rattle.walk.specs.State.{Shelf, Core, State, Changed, called, grown, counted, shelved}
+use Rattle.walk.specs.Rules.{Belongs, falls, unknown, Counted, nothing, one, there, Links, Call, Puts, done, put, Expand}
+use Rattle.walk.specs.Steps.{Ended, Visiting, Blank, Begin, alone, root, Step, visit, expand, again, rise, leave, end, Walk, begin, then, coarse, entered}
 use Rattle.walk.specs.Laws.{Given, Every-walk-moves-little, most-moves}
 use Rattle.walk.proofs.Lines.{suc-line, coarse-line}
 use Rattle.walk.proofs.Invariant.{On, Stack, Inv}
@@ -33,7 +33,7 @@ use Rattle.walk.proofs.Settle.{walk-inv}
 module _ {g : Network} {t : Tree} (fits : Fits g t) {src : ℕ} {s : State} (i : Inv g t src s) {v k : ℕ} (c : Credit g t (s .core) (s .frames) v k) where
 
   -- the top's counter rises
-  credit-rise : {y : ℕ} {count′ : ℕ → ℕ} → Changed (s .core .count) y (suc (s .core .count y)) count′ → Credit g t (risen-to s count′ .core) (s .frames) v k
+  credit-rise : {y : ℕ} {count′ : ℕ → ℕ} → Changed (s .core .count) y (suc (s .core .count y)) count′ → Credit g t (counted (s .core) count′) (s .frames) v k
   credit-rise {y} {count′} set =
       record { first = c .first; more = c .more; paid = c .paid; puts = c .puts; firsts = c .firsts; pays = c .pays;
         mores = record { shut = c .mores .shut; root = c .mores .root; on = c .mores .on;
@@ -43,14 +43,14 @@ module _ {g : Network} {t : Tree} (fits : Fits g t) {src : ℕ} {s : State} (i :
       up-count x = elim (ℕ-discrete x y) [ yes z ↦ omega (arith, ap (s .core .count) z, ap count′ z, set .at) | no z ↦ omega (arith, set .off x z) ]
 
   -- a visit ends
-  credit-left : {f : Frame} {fs : List Frame} {h′ : Shelf} → s .frames ≡ f ∷ fs → h′ .puts ≡ s .core .shelf .puts → Credit g t (left s h′ fs .core) fs v k
+  credit-left : {f : Frame} {fs : List Frame} {h′ : Shelf} → s .frames ≡ f ∷ fs → h′ .puts ≡ s .core .shelf .puts → Credit g t (shelved (s .core) h′) fs v k
   credit-left {f} {fs} ef e =
       record { first = c .first; more = c .more; paid = c .paid; puts = omega (arith, c .puts, e); firsts = c .firsts; pays = c .pays;
         mores = record { shut = c .mores .shut; root = c .mores .root; most = c .mores .most; on = λ h a. c .mores .on h (subst (λ z. Has z h) (sym ef) (inr a)) } }
 
   -- and the node is put again: its counter has just passed a line of its parent's
   credit-leave : {f : Frame} {fs : List Frame} {p : ℕ} {b : Option ℕ} {h′ : Shelf} → s .frames ≡ f ∷ fs → Ended t (s .core) f → t .parent (f .node) ≡ Some p
-    → Belongs t (s .core .soFar) (s .core .base) (f .node) b → Counted t (f .node) b (s .core .shelf .puts) (h′ .puts) → Credit g t (left s h′ fs .core) fs v k
+    → Belongs t (s .core .soFar) (s .core .base) (f .node) b → Counted t (f .node) b (s .core .shelf .puts) (h′ .puts) → Credit g t (shelved (s .core) h′) fs v k
   credit-leave ef ended h bel (nothing a e) = credit-left ef e
   credit-leave ef ended h (unknown q z) (one b′ a gr e) = absurd (some-none a z)
   credit-leave {f} {fs} {p} {b} {h′} ef ended h (falls x j l sl) (one b′ a gr e) =
@@ -122,7 +122,7 @@ module _ {g : Network} {t : Tree} (fits : Fits g t) {s : State} {v k : ℕ} (c :
 
   -- a node is expanded
   credit-expand : {d b : ℕ} {h h′ : Shelf} {base′ : ℕ → Option ℕ} {count′ : ℕ → ℕ} → h .puts ≡ s .core .shelf .puts → ¬ On (s .frames) x
-    → ((p : ℕ) → t .parent x ≡ Some p → coarse t x p (count′ x) ≡ b) → Expand t (s .core) x d h base′ count′ h′ → Credit g t (entered s x b base′ count′ h′ .core) (record { node = x; began = b } ∷ s .frames) v k
+    → ((p : ℕ) → t .parent x ≡ Some p → coarse t x p (count′ x) ≡ b) → Expand t (s .core) x d h base′ count′ h′ → Credit g t (grown (s .core) base′ count′ h′) (record { node = x; began = b } ∷ s .frames) v k
   credit-expand {d} {b} {h} {h′} {base′} {count′} eh off began ex =
       record { first = z .to; more = c .more; paid = c .paid; puts = omega (arith, c .puts, z .paid, eh); pays = c .pays;
         firsts = record { one = z .one; none = λ y q. z .off y (λ a. some-none (ex .base .at) (q x (fits .child x y a))) ∙ c .firsts .none y (λ p e. was p (q p e)) };
@@ -169,13 +169,13 @@ step-credit fits i c (visit v d s₁ vis) = credit-any (visiting-credit i c vis)
 step-credit {g} {t} fits {src} {s} i c (expand f fs x d h base′ count′ h′ ef going tk big shut ex) = go (item fits (i .facts) (going .more) tk)
   where
     go : New t (s .core) (f .node) x ⊎ Again t (s .core) (s .frames) (i .lim) (f .node) x
-      → Credit g t (entered s x (coarse t x (f .node) (count′ x)) base′ count′ h′ .core) (record { node = x; began = coarse t x (f .node) (count′ x) } ∷ s .frames) 0 (length (g .rows))
+      → Credit g t (grown (s .core) base′ count′ h′) (record { node = x; began = coarse t x (f .node) (count′ x) } ∷ s .frames) 0 (length (g .rows))
     go (inl a) = credit-expand fits c x shut (tk .puts) (child-off fits (i .facts) ef (a .parent)) (λ p h. ap (λ z. coarse t x z (count′ x)) (same-some h (a .parent))) ex
     go (inr a) = absurd (some-none (a .expanded .based) shut)
 step-credit {g} {t} fits {src} {s} i c (again f fs x β h ef going tk big based) = go (item fits (i .facts) (going .more) tk)
   where
     go : New t (s .core) (f .node) x ⊎ Again t (s .core) (s .frames) (i .lim) (f .node) x
-      → Credit g t (entered s x (coarse t x (f .node) (s .core .count x)) (s .core .base) (s .core .count) h .core) (record { node = x; began = coarse t x (f .node) (s .core .count x) } ∷ s .frames) 0 (length (g .rows))
+      → Credit g t (grown (s .core) (s .core .base) (s .core .count) h) (record { node = x; began = coarse t x (f .node) (s .core .count x) } ∷ s .frames) 0 (length (g .rows))
     go (inl a) = absurd (some-none based (a .shut))
     go (inr a) = credit-again fits i c (a .parent) (tk .puts)
 step-credit fits i c (rise f fs k count′ ef going now bare set) = credit-rise fits i c set

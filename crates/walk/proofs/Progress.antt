@@ -13,9 +13,9 @@ use Rattle.tree.specs.Tree.{Tree, Below, self, Fits}
 use Rattle.tree.proofs.Nodes.{node-of, station-only, above-other, rooted, tell, through, Through, Rooted}
 use Rattle.tree.proofs.Words.{some-none, same-some}
 use Rattle.walk.specs.declared.frame.Frame.{Frame}
-use Rattle.walk.specs.State.{Shelf, Core, State}
-use Rattle.walk.specs.Rules.{Lowest, Nothing, Call, called, Links, begun, next}
-use Rattle.walk.specs.Steps.{Open, Going, Now, Taken, Ended, risen, Visiting, Blank, alone, root, visit, expand, again, rise, leave, end, Walk, begin, then, coarse, entered, left, risen-to}
+use Rattle.walk.specs.State.{Shelf, Core, State, called, counted}
+use Rattle.walk.specs.Rules.{Lowest, Nothing, Call, Links, begun, next}
+use Rattle.walk.specs.Steps.{Open, Going, Now, Taken, Ended, risen, Visiting, Blank, alone, root, visit, expand, again, rise, leave, end, Walk, begin, then, coarse, entered, left}
 use Rattle.walk.specs.Steps as steps
 use Rattle.walk.specs.Laws.{Given, Next, Next-by, Runs-to, Every-walk-goes-on, Every-source-has-a-run, most-moves, in-service}
 use Rattle.walk.proofs.Invariant.{Expanded, Inv}
@@ -134,7 +134,7 @@ module _ {g : Network} {t : Tree} {src : ℕ} (given : Given g t src) (limit : m
         look (inl r) = by going (taken (r .0) (r .2) .1) .next
         look (inr n) =
             let a = change (s .core .count) (f .node) (suc (s .core .count (f .node))) in
-            record { to = risen-to s (a .to); step = rise f fs k (a .to) ef going now (λ c e. n c (small c (item (given .fits) (i .facts) (going .more) (taken c e .1))) e) (a .set) }
+            record { to = record { core = counted (s .core) (a .to); frames = s .frames }; step = rise f fs k (a .to) ef going now (λ c e. n c (small c (item (given .fits) (i .facts) (going .more) (taken c e .1))) e) (a .set) }
 
     pub next-step : Next g t s
     next-step = go (open-or-not (given .fits) (s .core .final) (f .node)) (t .parent (f .node)) refl

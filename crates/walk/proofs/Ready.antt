@@ -15,7 +15,7 @@ use Rattle.tree.proofs.Routes.{ends}
 use Rattle.tree.proofs.Words.{some-none, same-some}
 use Rattle.walk.specs.declared.frame.Frame.{Frame}
 use Rattle.walk.specs.State.{Core}
-use Rattle.walk.specs.Rules.{Lowest, Nothing, Falls, Belongs, falls, unknown, within, past, Granted, Front}
+use Rattle.walk.specs.Rules.{Lowest, Nothing, Falls, Belongs, falls, unknown, within, past, Granted}
 use Rattle.walk.specs.Able.{Fronted}
 use Rattle.walk.proofs.Lines.{suc-line, line-mono, line-lt, width-pos}
 use Rattle.walk.proofs.Invariant.{On, Expanded, Standing, loose, fresh, visiting, through, waiting, Facts}

@@ -12,9 +12,9 @@ use Rattle.tree.specs.Tree.{Tree, self, In, Fits, width}
 use Rattle.tree.proofs.Nodes.{in-parent, Through, in-inner, above-other}
 use Rattle.tree.proofs.Words.{some-none, same-some}
 use Rattle.walk.specs.declared.frame.Frame.{Frame}
-use Rattle.walk.specs.State.{Core, State, Changed}
+use Rattle.walk.specs.State.{Core, State, Changed, grown, counted}
 use Rattle.walk.specs.Rules.{falls, unknown, Slot, within, past}
-use Rattle.walk.specs.Steps.{Open, Going, Now, coarse, risen-to}
+use Rattle.walk.specs.Steps.{Open, Going, Now, coarse}
 use Rattle.walk.proofs.Lines.{suc-line, line-mono, line-lt, bucket-low, bucket-high, coarse-high, coarse-past, width-pos}
 use Rattle.walk.proofs.Invariant.{On, Expanded, line, Standing, loose, fresh, visiting, through, waiting, Top, Facts, Looked, Inv}
 use Rattle.walk.proofs.Keep.{Change, change, restack, OnTail, on-above, began-at, the-stack, child-off}
@@ -24,9 +24,6 @@ use Rattle.walk.proofs.Take.{in-room}
 module _ {g : Network} {t : Tree} (fits : Fits g t) {src : ℕ} {s : Core} {fs : List Frame} {lim : ℕ → ℕ} (facts : Facts g t src s fs lim) (looked : Looked g (s .final) (s .soFar))
     {f : Frame} {gs : List Frame} (ef : fs ≡ f ∷ gs) (going : Going t s f) {k : ℕ} (now : Now s (f .node) k)
     (bare : (c : ℕ) → s .shelf .bucket c ≢ Some (t .first (f .node) + k)) where
-
-  x : ℕ
-  x = f .node
 
   expanded : Expanded (s .base) (f .node)
   expanded = record { start = now .start; based = now .based }
@@ -87,9 +84,6 @@ module _ {g : Network} {t : Tree} (fits : Fits g t) {src : ℕ} {s : Core} {fs :
       (least-new : line t (s .count) (f .node) + width t (f .node) ≤ new) (most-new : new ≤ line t (s .count) (f .node) + width t (f .node) + width t (f .node))
       (under : (p : ℕ) → t .parent (f .node) ≡ Some p → new ≤ lim p) (top′ : Top t count′ lim′ f) where
 
-    s′ : Core
-    s′ = record { final = s .final; soFar = s .soFar; base = s .base; count = count′; shelf = s .shelf }
-
     raised : count′ (f .node) * width t (f .node) ≡ line t (s .count) (f .node) + width t (f .node)
     raised = ap (λ a. a * width t (f .node)) (set .at) ∙ suc-line (s .count (f .node)) (width t (f .node))
 
@@ -119,8 +113,7 @@ module _ {g : Network} {t : Tree} (fits : Fits g t) {src : ℕ} {s : Core} {fs :
     room′ y β e (yes z) = let q : β ≡ now .start = same-some (ap (s .base) (sym z) ∙ e) (now .based) in omega (arith, ap count′ z, set .at, ap (t .buckets) z, in-room fits facts (f .node) (now .start) (now .based) (going .more))
     room′ y β e (no z) = omega (arith, set .off y z, facts .limits .room y β e)
 
-    stands′ : (c : ℕ) → Standing t s fs lim c (s .shelf .bucket c) → Standing t s′ fs lim′ c (s .shelf .bucket c)
-    unfolding s′
+    stands′ : (c : ℕ) → Standing t s fs lim c (s .shelf .bucket c) → Standing t (counted s count′) fs lim′ c (s .shelf .bucket c)
     stands′ c (loose h e) = loose h e
     stands′ c (fresh p β h b n bel) = fresh p β h b n bel
     stands′ c (visiting o e) = visiting o e
@@ -139,8 +132,7 @@ module _ {g : Network} {t : Tree} (fits : Fits g t) {src : ℕ} {s : Core} {fs :
         let n : y ≢ f .node = λ z. above-other fits (q .1) (q .2) (sym z) in
         (set .off y n, lift .off y n)
 
-    pub rise-facts : Facts g t src (record { final = s .final; soFar = s .soFar; base = s .base; count = count′; shelf = s .shelf }) fs lim′
-    unfolding s′
+    pub rise-facts : Facts g t src (counted s count′) fs lim′
     rise-facts =
         record {
           delays = facts .delays;
@@ -162,13 +154,13 @@ module _ {g : Network} {t : Tree} (fits : Fits g t) {src : ℕ} {s : Core} {fs :
 
 pub rise-step : {g : Network} {t : Tree} (fits : Fits g t) {src : ℕ} {s : State} {f : Frame} {fs : List Frame} {k : ℕ} {count′ : ℕ → ℕ}
   → Inv g t src s → s .frames ≡ f ∷ fs → Going t (s .core) f → Now (s .core) (f .node) k → ((c : ℕ) → s .core .shelf .bucket c ≢ Some (t .first (f .node) + k))
-  → Changed (s .core .count) (f .node) (suc (s .core .count (f .node))) count′ → Inv g t src (risen-to s count′)
+  → Changed (s .core .count) (f .node) (suc (s .core .count (f .node))) count′ → Inv g t src (record { core = counted (s .core) count′; frames = s .frames })
 rise-step {g} {t} fits {src} {s} {f} {fs} {k} {count′} i ef going now bare set = go (t .parent (f .node)) refl
   where
     at : ℕ
     at = line t (s .core .count) (f .node) + width t (f .node)
     finish : (new : ℕ) (c : Change (i .lim) (f .node) new) → line t (s .core .count) (f .node) + width t (f .node) ≤ new → new ≤ line t (s .core .count) (f .node) + width t (f .node) + width t (f .node)
-      → ((p : ℕ) → t .parent (f .node) ≡ Some p → new ≤ i .lim p) → Top t count′ (c .to) f → Inv g t src (risen-to s count′)
+      → ((p : ℕ) → t .parent (f .node) ≡ Some p → new ≤ i .lim p) → Top t count′ (c .to) f → Inv g t src (record { core = counted (s .core) count′; frames = s .frames })
     finish new c a b u tp =
         record { lim = c .to; facts = rise-facts fits (i .facts) (i .looked) ef going now bare set (c .set) a b u tp; looked = i .looked; over = i .over }
     raise : count′ (f .node) * width t (f .node) ≡ line t (s .core .count) (f .node) + width t (f .node)
@@ -177,7 +169,7 @@ rise-step {g} {t} fits {src} {s} {f} {fs} {k} {count′} i ef going now bare set
     high = change (i .lim) (f .node) (line t (s .core .count) (f .node) + width t (f .node) + width t (f .node))
     low : Change (i .lim) (f .node) (line t (s .core .count) (f .node) + width t (f .node))
     low = change (i .lim) (f .node) (line t (s .core .count) (f .node) + width t (f .node))
-    go : (o : Option ℕ) → t .parent (f .node) ≡ o → Inv g t src (risen-to s count′)
+    go : (o : Option ℕ) → t .parent (f .node) ≡ o → Inv g t src (record { core = counted (s .core) count′; frames = s .frames })
     go None n =
         finish (line t (s .core .count) (f .node) + width t (f .node) + width t (f .node)) high (omega arith) (omega arith) (λ p h. absurd (some-none h n))
           (record { same = λ h. omega (arith, high .set .at, raise); risen = λ p h. absurd (some-none h n) })
@@ -187,7 +179,7 @@ rise-step {g} {t} fits {src} {s} {f} {fs} {k} {count′} i ef going now bare set
         bg = began-at (the-stack fits (i .facts) ef) n
         began-line : f .began * width t p ≡ line t (s .core .count) p
         began-line = ap (λ a. a * width t p) (bg .0)
-        pick : Dec (coarse t (f .node) p (count′ (f .node)) ≡ f .began) → Inv g t src (risen-to s count′)
+        pick : Dec (coarse t (f .node) p (count′ (f .node)) ≡ f .began) → Inv g t src (record { core = counted (s .core) count′; frames = s .frames })
         -- the counter is still in the parent's bucket
         pick (yes e) =
             let inn = i .facts .grown .inner (f .node) (now .start) (now .based) in

@@ -1,5 +1,5 @@
 -- A keeper's places read as the stations of the walk: the least of a run is the least of its node, and a place is a station.
-use mathlib.Core.Path.{_≡_, refl, sym, ap, _∙_}
+use mathlib.Core.Path.{_≡_, sym, ap, _∙_}
 use mathlib.Core.Logic.{_≢_}
 use Prim.Native.Nat.{ℕ, _≤_, _<_}
 use native.Mathlib.Omega.{arith}
@@ -9,7 +9,7 @@ use mathlib.Core.List.{List}
 use Rattle.std.proofs.shelf.Lists.{getD-set-same, getD-set-other}
 use Rattle.std.specs.declared.option.Option.{Option}
 use Rattle.std.specs.declared.option.Option.the-variants.{Some, None}
-use Rattle.tree.specs.Tree.{Tree, In, Runs}
+use Rattle.tree.specs.Tree.{Tree, Runs}
 use Rattle.walk.specs.State.{Changed}
 use Rattle.walk.specs.Rules.{Lowest, Nothing}
 

@@ -12,8 +12,8 @@ use Rattle.tree.specs.Tree.{Tree, Below, In, Inner, Fits, width}
 use Rattle.tree.proofs.Laws-of-routes.{least-self}
 use Rattle.tree.proofs.Nodes.{station-only, root-top, holder}
 use Rattle.tree.proofs.Words.{some-none, same-some}
-use Rattle.walk.specs.State.{Core, State, Changed}
-use Rattle.walk.specs.Rules.{Call, called, Links}
+use Rattle.walk.specs.State.{Core, State, Changed, called, grown}
+use Rattle.walk.specs.Rules.{Call, Links}
 use Rattle.walk.specs.Steps.{Open, Blank, Begin, alone, root, entered}
 use Rattle.walk.proofs.Lines.{bucket-low}
 use Rattle.walk.proofs.Invariant.{On, Expanded, Found, Stack, empty, bottom, loose, Facts, Looked, Inv}

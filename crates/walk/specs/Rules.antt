@@ -7,7 +7,7 @@ use Rattle.std.specs.declared.option.Option.{Option}
 use Rattle.std.specs.declared.option.Option.the-variants.{Some, None}
 use Rattle.network.specs.Network.{Network, Hop, delay}
 use Rattle.tree.specs.Tree.{Tree, Below, In, width, buckets-in-all}
-use Rattle.walk.specs.State.{Shelf, Core, Changed}
+use Rattle.walk.specs.State.{Shelf, Core, Changed, lowered}
 
 -- the least of the node x is d: the smallest delay that the keeper has of its stations
 pub record Lowest (t : Tree) (soFar : ℕ → Option ℕ) (x d : ℕ) : Type 0 where
@@ -70,9 +70,6 @@ pub record Front (t : Tree) (base : ℕ → Option ℕ) (u c : ℕ) : Type 0 whe
   pub start : ℕ
   pub based : base x ≡ Some start
 
-abbrev pub lowered : Core → (ℕ → Option ℕ) → Shelf → Core
-lowered s soFar shelf = record { final = s .final; soFar = soFar; base = s .base; count = s .count; shelf = shelf }
-
 -- rule 6: the link k of the station v, whose delay is d
 pub data Link (g : Network) (t : Tree) (v d k : ℕ) (s : Core) : Core → Type 0 where
   -- it is not in service, or no link of v, or leads to a visited station
@@ -95,9 +92,6 @@ pub record Call (s : Core) (v d : ℕ) (final′ soFar′ : ℕ → Option ℕ) 
   pub known : s .soFar v ≡ Some d
   pub final : Changed (s .final) v (Some d) final′
   pub soFar : Changed (s .soFar) v None soFar′
-
-abbrev pub called : Core → (ℕ → Option ℕ) → (ℕ → Option ℕ) → Shelf → Core
-called s final soFar shelf = record { final = final; soFar = soFar; base = s .base; count = s .count; shelf = shelf }
 
 -- rule 2: the children cs are put by rule 3, one after the other
 pub data Puts (t : Tree) (soFar base : ℕ → Option ℕ) : List ℕ → Shelf → Shelf → Type 0 where

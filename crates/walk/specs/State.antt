@@ -31,3 +31,25 @@ pub record State : Type 0 where
 pub record Changed {A : Type 0} (f : ℕ → A) (v : ℕ) (x : A) (f′ : ℕ → A) : Type 0 where
   pub at : f′ v ≡ x
   pub off : (u : ℕ) → u ≢ v → f′ u ≡ f u
+
+-- what each kind of step may change
+
+-- a station is lowered, and a node moved
+abbrev pub lowered : Core → (ℕ → Option ℕ) → Shelf → Core
+lowered s soFar shelf = record { final = s .final; soFar = soFar; base = s .base; count = s .count; shelf = shelf }
+
+-- a station becomes final
+abbrev pub called : Core → (ℕ → Option ℕ) → (ℕ → Option ℕ) → Shelf → Core
+called s final soFar shelf = record { final = final; soFar = soFar; base = s .base; count = s .count; shelf = shelf }
+
+-- a node is expanded
+abbrev pub grown : Core → (ℕ → Option ℕ) → (ℕ → ℕ) → Shelf → Core
+grown s base count shelf = record { final = s .final; soFar = s .soFar; base = base; count = count; shelf = shelf }
+
+-- a counter rises
+abbrev pub counted : Core → (ℕ → ℕ) → Core
+counted s count = record { final = s .final; soFar = s .soFar; base = s .base; count = count; shelf = s .shelf }
+
+-- an item is put or taken
+abbrev pub shelved : Core → Shelf → Core
+shelved s shelf = record { final = s .final; soFar = s .soFar; base = s .base; count = s .count; shelf = shelf }

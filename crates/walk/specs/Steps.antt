@@ -9,8 +9,8 @@ use Rattle.std.specs.declared.option.Option.the-variants.{Some, None}
 use Rattle.network.specs.Network.{Network}
 use Rattle.tree.specs.Tree.{Tree, Below, In}
 use Rattle.walk.specs.declared.frame.Frame.{Frame}
-use Rattle.walk.specs.State.{Shelf, Core, State, Changed}
-use Rattle.walk.specs.Rules.{Belongs, Placed, Links, Call, called, Expand}
+use Rattle.walk.specs.State.{Shelf, Core, State, Changed, called, grown, counted, shelved}
+use Rattle.walk.specs.Rules.{Belongs, Placed, Links, Call, Expand}
 
 -- k widths of x, in widths of its parent p
 abbrev pub coarse : Tree → ℕ → ℕ → ℕ → ℕ
@@ -66,24 +66,11 @@ pub record Visiting (g : Network) (t : Tree) (s : State) (v d k : ℕ) (s₁ : C
 
 -- a visit to c begins
 abbrev pub entered : State → ℕ → ℕ → (ℕ → Option ℕ) → (ℕ → ℕ) → Shelf → State
-entered s c began base count shelf = record {
-  core = record { final = s .core .final; soFar = s .core .soFar; base = base; count = count; shelf = shelf };
-  frames = record { node = c; began = began } ∷ s .frames;
-}
-
--- the counters change
-abbrev pub risen-to : State → (ℕ → ℕ) → State
-risen-to s count = record {
-  core = record { final = s .core .final; soFar = s .core .soFar; base = s .core .base; count = count; shelf = s .core .shelf };
-  frames = s .frames;
-}
+entered s c began base count shelf = record { core = grown (s .core) base count shelf; frames = record { node = c; began = began } ∷ s .frames }
 
 -- the innermost visit is over
 abbrev pub left : State → Shelf → List Frame → State
-left s shelf frames = record {
-  core = record { final = s .core .final; soFar = s .core .soFar; base = s .core .base; count = s .core .count; shelf = shelf };
-  frames = frames;
-}
+left s shelf frames = record { core = shelved (s .core) shelf; frames = frames }
 
 pub data Step (g : Network) (t : Tree) (s : State) : State → Type 0 where
   -- rules 4 and 6: a station is taken and visited
@@ -99,7 +86,7 @@ pub data Step (g : Network) (t : Tree) (s : State) : State → Type 0 where
   -- rule 4: the bucket is empty, and the counter rises by one
   rise : (f : Frame) (fs : List Frame) (k : ℕ) (count′ : ℕ → ℕ)
       → s .frames ≡ f ∷ fs → Going t (s .core) f → Now (s .core) (f .node) k → ((c : ℕ) → s .core .shelf .bucket c ≢ Some (t .first (f .node) + k))
-      → Changed (s .core .count) (f .node) (suc (s .core .count (f .node))) count′ → Step g t s (risen-to s count′)
+      → Changed (s .core .count) (f .node) (suc (s .core .count (f .node))) count′ → Step g t s (record { core = counted (s .core) count′; frames = s .frames })
   -- rules 5 and 4: the visit of a child ends, and it is put again by rule 3
   leave : (f : Frame) (fs : List Frame) (p : ℕ) (b : Option ℕ) (h′ : Shelf)
       → s .frames ≡ f ∷ fs → Ended t (s .core) f → t .parent (f .node) ≡ Some p
