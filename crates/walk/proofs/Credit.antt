@@ -25,7 +25,7 @@ use Rattle.walk.specs.Laws.{in-service, most-moves}
 use Rattle.walk.proofs.Lines.{bucket-add}
 use Rattle.walk.proofs.Invariant.{On}
 use Rattle.walk.proofs.Keep.{Change, change}
-use Rattle.walk.proofs.Look.{link-final}
+use Rattle.walk.proofs.Look.{links-alike}
 
 abbrev pub Has : List Frame → Frame → Type 0
 Has [] f = ⊥
@@ -150,11 +150,9 @@ module _ {g : Network} {t : Tree} {fs : List Frame} {v d : ℕ} where
                 ]
             } }
 
-  pub credit-links : {s : Core} {k : ℕ} {s₁ : Core} → s .final v ≡ Some d → Credit g t s fs v 0 → Links g t v d s k s₁ → (Credit g t s₁ fs v k) × (s₁ .final v ≡ Some d)
-  credit-links seen c begun = (c, seen)
-  credit-links seen c (next r l) =
-      let z = credit-links seen c r in
-      (credit-link (z .1) (z .0) l, ap (λ (f : ℕ → Option ℕ). f v) (link-final l) ∙ z .1)
+  pub credit-links : {s : Core} {k : ℕ} {s₁ : Core} → s .final v ≡ Some d → Credit g t s fs v 0 → Links g t v d s k s₁ → Credit g t s₁ fs v k
+  credit-links seen c begun = c
+  credit-links seen c (next r l) = credit-link (ap (λ (f : ℕ → Option ℕ). f v) (links-alike r .final) ∙ seen) (credit-links seen c r) l
 
 -- between steps no station's links are being followed
 module _ {g : Network} {t : Tree} {fs : List Frame} where

@@ -24,6 +24,7 @@ use Rattle.walk.specs.Laws.{Every-walk-ends, Every-walk-moves-enough, reached}
 use Rattle.walk.specs.Laws as laws
 use Rattle.walk.proofs.Invariant.{Inv}
 use Rattle.walk.proofs.Keep.{Change, change}
+use Rattle.walk.proofs.Look.{Alike, links-alike}
 use Rattle.walk.proofs.Take.{item}
 use Rattle.walk.proofs.Settle.{walk-inv}
 use Rattle.walk.proofs.Moves.{moves-little}
@@ -87,16 +88,6 @@ module _ {t : Tree} {takes : ℕ → ℕ} where
       go (keep u y j n e h) l = l
       go (lower u c b soFar′ h′ j n nearer low front bel move) l = move-stock move l
 
--- following links leaves all else as it is
-links-same : {g : Network} {t : Tree} {v d : ℕ} {s : Core} {k : ℕ} {s₁ : Core} → Links g t v d s k s₁ → (s₁ .final ≡ s .final) × (s₁ .base ≡ s .base) × (s₁ .count ≡ s .count)
-links-same begun = (refl, refl, refl)
-links-same {g} {t} {v} {d} (next r p) = let q = links-same r in let z = go p in (z .0 ∙ q .0, z .1 ∙ q .1, z .2 ∙ q .2)
-  where
-    go : {k : ℕ} {s s₁ : Core} → Link g t v d k s s₁ → (s₁ .final ≡ s .final) × (s₁ .base ≡ s .base) × (s₁ .count ≡ s .count)
-    go (skip h) = (refl, refl, refl)
-    go (keep u y j n e h) = (refl, refl, refl)
-    go (lower u c b soFar′ h′ j n nearer low front bel move) = (refl, refl, refl)
-
 -- an item is taken
 module _ {t : Tree} {s : State} {k : ℕ} (l : Ledger t s k) {x c : ℕ} {h′ : Shelf} (tk : Taken t (s .core) x c h′) (small : c < t .nodes) where
 
@@ -126,14 +117,14 @@ module _ {t : Tree} {s : State} {k : ℕ} (l : Ledger t s k) {x c : ℕ} {h′ :
     → Ledger t (record { core = s₁; frames = s .frames }) (suc k)
   visit-ledger {g} {d} {final′} {soFar′} {s₁} call links =
       record { puts = st .puts; takes = took .to; rises = l .rises; stock = st .stock;
-        risen = subst (λ (b : ℕ → Option ℕ). Rises b (s₁ .count) (l .rises)) (sym (q .1)) (subst (λ (n : ℕ → ℕ). Rises (s .core .base) n (l .rises)) (sym (q .2)) (l .risen));
-        seen = λ v e p a h. seen′ v e p (ap (λ (f : ℕ → Option ℕ). f v) (sym (q .0)) ∙ a) h (ℕ-discrete v c);
+        risen = subst (λ (b : ℕ → Option ℕ). Rises b (s₁ .count) (l .rises)) (sym (q .base)) (subst (λ (n : ℕ → ℕ). Rises (s .core .base) n (l .rises)) (sym (q .count)) (l .risen));
+        seen = λ v e p a h. seen′ v e p (ap (λ (f : ℕ → Option ℕ). f v) (sym (q .final)) ∙ a) h (ℕ-discrete v c);
         steps = omega (arith, l .steps, more-takes) }
     where
       st : Stocked t (s₁ .shelf) (took .to)
       st = links-stock links take-stock
-      q : (s₁ .final ≡ final′) × (s₁ .base ≡ s .core .base) × (s₁ .count ≡ s .core .count)
-      q = links-same links
+      q : Alike (called (s .core) final′ soFar′ h′) s₁
+      q = links-alike links
       seen′ : (v e p : ℕ) → final′ v ≡ Some e → t .parent v ≡ Some p → Dec (v ≡ c) → 1 ≤ took .to v
       seen′ v e p a h (yes z) = omega (arith, ap (took .to) z, took .set .at)
       seen′ v e p a h (no z) = omega (arith, took .set .off v z, l .seen v e p (sym (call .final .off v z) ∙ a) h)
@@ -192,11 +183,11 @@ begin-ledger {g} {t} {src} {s} b = go b
     still blank = record { shut = λ x e. refl; most = λ x β e. absurd (some-none e (blank .base x)) }
     go : {s₁ : State} → Begin g t src s s₁ → Ledger t s₁ 0
     go (alone final′ soFar′ s₁ blank h call links) =
-        let q = links-same links in
+        let q = links-alike links in
         let st = links-stock links (none blank) in
         record { puts = st .puts; takes = λ x. 0; rises = λ x. 0; stock = st .stock;
-          risen = record { shut = λ x e. refl; most = λ x β e. absurd (some-none (ap (λ (f : ℕ → Option ℕ). f x) (sym (q .1)) ∙ e) (blank .base x)) };
-          seen = λ v d p e r. elim (ℕ-discrete v src) [ yes z ↦ absurd (some-none r (ap (t .parent) z ∙ h)) | no z ↦ absurd (some-none (ap (λ (f : ℕ → Option ℕ). f v) (sym (q .0)) ∙ e) (call .final .off v z ∙ blank .final v)) ];
+          risen = record { shut = λ x e. refl; most = λ x β e. absurd (some-none (ap (λ (f : ℕ → Option ℕ). f x) (sym (q .base)) ∙ e) (blank .base x)) };
+          seen = λ v d p e r. elim (ℕ-discrete v src) [ yes z ↦ absurd (some-none r (ap (t .parent) z ∙ h)) | no z ↦ absurd (some-none (ap (λ (f : ℕ → Option ℕ). f v) (sym (q .final)) ∙ e) (call .final .off v z ∙ blank .final v)) ];
           steps = omega (arith, ap length (blank .frames)) }
     go (root r d base′ count′ h′ blank big below h ex) =
         let st = puts-stock (ex .puts) (none blank) in

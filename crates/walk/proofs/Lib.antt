@@ -1,5 +1,6 @@
 pub mod Credit
 pub mod Enter
+pub mod Finish
 pub mod Follow
 pub mod Free
 pub mod Handover
@@ -10,6 +11,7 @@ pub mod Ledger
 pub mod Lines
 pub mod Look
 pub mod Moves
+pub mod One-way
 pub mod Pass
 pub mod Progress
 pub mod Ready

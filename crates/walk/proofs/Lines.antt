@@ -58,46 +58,47 @@ bucket-add a b m q h l =
 pub width-pos : (t : Tree) (x : ℕ) → 0 < width t x
 width-pos t x = pow-pos (t .level x - 1)
 
+-- how many widths of x make one of its parent p
+abbrev ratio : Tree → ℕ → ℕ → ℕ
+ratio t x p = 2 ^ (t .level p - t .level x)
+
 -- the lines of x among those of its parent p
 module _ {g : Network} {t : Tree} (fits : Fits g t) {x p : ℕ} (h : t .parent x ≡ Some p) (i : Inner t x) where
 
-  q : ℕ
-  q = 2 ^ (t .level p - t .level x)
+  ratio-pos : 0 < ratio t x p
+  ratio-pos = pow-pos (t .level p - t .level x)
 
-  q-pos : 0 < 2 ^ (t .level p - t .level x)
-  q-pos = pow-pos (t .level p - t .level x)
-
-  widths : width t p ≡ 2 ^ (t .level p - t .level x) * width t x
+  widths : width t p ≡ ratio t x p * width t x
   widths = ap (λ k. 2 ^ k) (split (t .level p) (t .level x) (fits .high x i) (fits .rising x p h)) ∙ pow-add 2 (t .level p - t .level x) (t .level x - 1)
     where
       split : (a b : ℕ) → 1 ≤ b → b < a → a - 1 ≡ (a - b) + (b - 1)
       split a b h l = omega arith
 
-  lines : (m : ℕ) → m * width t p ≡ (m * 2 ^ (t .level p - t .level x)) * width t x
-  lines m = ap (λ k. m * k) widths ∙ sym (mul-assoc m (2 ^ (t .level p - t .level x)) (width t x))
+  lines : (m : ℕ) → m * width t p ≡ (m * ratio t x p) * width t x
+  lines m = ap (λ k. m * k) widths ∙ sym (mul-assoc m (ratio t x p) (width t x))
 
   pub coarse-next : (k m : ℕ) → k * width t x < m * width t p → k * width t x + width t x ≤ m * width t p
-  coarse-next k m l = omega (arith, lines m, line-next k (m * 2 ^ (t .level p - t .level x)) (width t x) (omega (arith, lines m)))
+  coarse-next k m l = omega (arith, lines m, line-next k (m * ratio t x p) (width t x) (omega (arith, lines m)))
 
   pub coarse-high : (k b : ℕ) → coarse t x p k ≡ b → k * width t x + width t x ≤ b * width t p + width t p
   coarse-high k b e =
-      omega (arith, line-mono (suc k) (suc b * 2 ^ (t .level p - t .level x)) (width t x) (omega (arith, bucket-high k (2 ^ (t .level p - t .level x)) b q-pos e, suc-line b (2 ^ (t .level p - t .level x)))),
+      omega (arith, line-mono (suc k) (suc b * ratio t x p) (width t x) (omega (arith, bucket-high k (ratio t x p) b ratio-pos e, suc-line b (ratio t x p))),
         suc-line k (width t x), lines (suc b), suc-line b (width t p))
 
   -- one past the last line of a bucket of p
   pub coarse-past : (k b : ℕ) → coarse t x p k ≡ b → coarse t x p (suc k) ≢ b → k * width t x + width t x ≡ b * width t p + width t p
-  coarse-past k b e n = go (decLt (suc k) (b * 2 ^ (t .level p - t .level x) + 2 ^ (t .level p - t .level x)))
+  coarse-past k b e n = go (decLt (suc k) (b * ratio t x p + ratio t x p))
     where
-      go : Dec (suc k < b * 2 ^ (t .level p - t .level x) + 2 ^ (t .level p - t .level x)) → k * width t x + width t x ≡ b * width t p + width t p
-      go (yes l) = absurd (n (bucket-is (suc k) (2 ^ (t .level p - t .level x)) b q-pos (omega (arith, bucket-low k (2 ^ (t .level p - t .level x)) b e)) l))
+      go : Dec (suc k < b * ratio t x p + ratio t x p) → k * width t x + width t x ≡ b * width t p + width t p
+      go (yes l) = absurd (n (bucket-is (suc k) (ratio t x p) b ratio-pos (omega (arith, bucket-low k (ratio t x p) b e)) l))
       go (no l) =
-          omega (arith, coarse-high k b e, line-mono (suc b * 2 ^ (t .level p - t .level x)) (suc k) (width t x) (omega (arith, suc-line b (2 ^ (t .level p - t .level x)))),
+          omega (arith, coarse-high k b e, line-mono (suc b * ratio t x p) (suc k) (width t x) (omega (arith, suc-line b (ratio t x p))),
             suc-line k (width t x), lines (suc b), suc-line b (width t p))
 
   -- a delay's bucket of x lies in its bucket of p
   pub coarse-least : (d : ℕ) → coarse t x p (d / width t x) ≡ d / width t p
-  coarse-least d = div-div-eq-div-mul d (width t x) (2 ^ (t .level p - t .level x)) ∙ ap (λ k. d / k) (mul-comm (width t x) (2 ^ (t .level p - t .level x)) ∙ sym widths)
+  coarse-least d = div-div-eq-div-mul d (width t x) (ratio t x p) ∙ ap (λ k. d / k) (mul-comm (width t x) (ratio t x p) ∙ sym widths)
 
   -- a line of x that is a line of p
   pub coarse-line : (k m : ℕ) → k * width t x ≡ m * width t p → coarse t x p k ≡ m
-  coarse-line k m e = ap (λ j. j / 2 ^ (t .level p - t .level x)) (line-same k (m * 2 ^ (t .level p - t .level x)) (width t x) (width-pos t x) (e ∙ lines m)) ∙ mul-div-cancel m q-pos
+  coarse-line k m e = ap (λ j. j / ratio t x p) (line-same k (m * ratio t x p) (width t x) (width-pos t x) (e ∙ lines m)) ∙ mul-div-cancel m ratio-pos

@@ -116,10 +116,20 @@ pub record Looking (g : Network) (t : Tree) (src v k : ℕ) (s s₁ : Core) (fs 
   pub looked : LookedTo g (s₁ .final) (s₁ .soFar) v k
   pub final : s₁ .final ≡ s .final
 
-pub link-final : {g : Network} {t : Tree} {v d k : ℕ} {s s₁ : Core} → Link g t v d k s s₁ → s₁ .final ≡ s .final
-link-final (skip h) = refl
-link-final (keep u y j n e l) = refl
-link-final (lower u c b soFar′ h′ j n nearer low front bel move) = refl
+-- following links changes the keeper and the shelf alone
+pub record Alike (s s₁ : Core) : Type 0 where
+  pub final : s₁ .final ≡ s .final
+  pub base : s₁ .base ≡ s .base
+  pub count : s₁ .count ≡ s .count
+
+link-alike : {g : Network} {t : Tree} {v d k : ℕ} {s s₁ : Core} → Link g t v d k s s₁ → Alike s s₁
+link-alike (skip h) = record { final = refl; base = refl; count = refl }
+link-alike (keep u y j n e l) = record { final = refl; base = refl; count = refl }
+link-alike (lower u c b soFar′ h′ j n nearer low front bel move) = record { final = refl; base = refl; count = refl }
+
+pub links-alike : {g : Network} {t : Tree} {v d : ℕ} {s : Core} {k : ℕ} {s₁ : Core} → Links g t v d s k s₁ → Alike s s₁
+links-alike begun = record { final = refl; base = refl; count = refl }
+links-alike (next r l) = let p = links-alike r in let q = link-alike l in record { final = q .final ∙ p .final; base = q .base ∙ p .base; count = q .count ∙ p .count }
 
 module _ {g : Network} {t : Tree} (fits : Fits g t) {src v d : ℕ} {fs : List Frame} {lim : ℕ → ℕ} {s : Core} (facts : Facts g t src s fs lim)
     (seen : s .final v ≡ Some d) (old : LookedTo g (s .final) (s .soFar) v 0) where
@@ -129,4 +139,4 @@ module _ {g : Network} {t : Tree} (fits : Fits g t) {src v d : ℕ} {fs : List F
   links-looking (next r l) =
       let z = links-looking r in
       let e = ap (λ (f : ℕ → Option ℕ). f v) (z .final) ∙ seen in
-      record { facts = link-facts fits (z .facts) e l; looked = link-looked fits (z .facts) e (z .looked) l; final = link-final l ∙ z .final }
+      record { facts = link-facts fits (z .facts) e l; looked = link-looked fits (z .facts) e (z .looked) l; final = links-alike (next r l) .final }

@@ -18,7 +18,7 @@ use Rattle.tree.proofs.Words.{some-none, same-some}
 use Rattle.walk.specs.declared.frame.Frame.{Frame}
 use Rattle.walk.specs.State.{Shelf, Core, State, Changed, called, grown, counted, shelved}
 use Rattle.walk.specs.Rules.{Belongs, falls, unknown, Counted, nothing, one, there, Links, Call, Puts, done, put, Expand}
-use Rattle.walk.specs.Steps.{Ended, Visiting, Blank, Begin, alone, root, Step, visit, expand, again, rise, leave, end, Walk, begin, then, coarse, entered}
+use Rattle.walk.specs.Steps.{Ended, Visiting, Blank, Begin, alone, root, Step, visit, expand, again, rise, leave, end, Walk, begin, then, coarse}
 use Rattle.walk.specs.Laws.{Given, Every-walk-moves-little, most-moves}
 use Rattle.walk.proofs.Lines.{suc-line, coarse-line}
 use Rattle.walk.proofs.Invariant.{On, Stack, Inv}
@@ -82,7 +82,7 @@ module _ {g : Network} {t : Tree} (fits : Fits g t) {src : ℕ} {s : State} (i :
 
   -- a node is visited again
   credit-again : {x y : ℕ} {h′ : Shelf} → t .parent y ≡ Some x → h′ .puts ≡ s .core .shelf .puts
-    → Credit g t (entered s y (coarse t y x (s .core .count y)) (s .core .base) (s .core .count) h′ .core) (record { node = y; began = coarse t y x (s .core .count y) } ∷ s .frames) v k
+    → Credit g t (shelved (s .core) h′) (record { node = y; began = coarse t y x (s .core .count y) } ∷ s .frames) v k
   credit-again {x} {y} h e =
       record { first = c .first; more = c .more; paid = c .paid; puts = omega (arith, c .puts, e); firsts = c .firsts; pays = c .pays;
         mores = record { shut = c .mores .shut; root = c .mores .root; most = c .mores .most; on = λ m. elim [ inl e ↦ new m e | inr a ↦ c .mores .on m a ] } }
@@ -156,13 +156,13 @@ blank-credit blank =
       pays = record { one = λ e. omega arith; seen = λ e. inl refl } }
 
 begin-credit : {g : Network} {t : Tree} → Fits g t → {src : ℕ} {s s₁ : State} → Begin g t src s s₁ → Credit g t (s₁ .core) (s₁ .frames) 0 (length (g .rows))
-begin-credit fits {src} (alone final′ soFar′ s₁ blank h call links) = credit-any (credit-links (call .final .at) (credit-call (blank .final src) refl (blank-credit blank) call) links .0)
+begin-credit fits {src} (alone final′ soFar′ s₁ blank h call links) = credit-any (credit-links (call .final .at) (credit-call (blank .final src) refl (blank-credit blank) call) links)
 begin-credit fits (root r d base′ count′ h′ blank big below h ex) =
     credit-expand fits (blank-credit blank) r (blank .base r) refl (subst (λ z. ¬ On z r) (sym (blank .frames)) (λ a. a)) (λ p q. absurd (some-none q h)) ex
 
 -- in the midst of the links of a visited station
 pub visiting-credit : {g : Network} {t : Tree} {src : ℕ} {s : State} {v d k : ℕ} {s₁ : Core} → Inv g t src s → Credit g t (s .core) (s .frames) 0 (length (g .rows)) → Visiting g t s v d k s₁ → Credit g t s₁ (s .frames) v k
-visiting-credit {v = v} {d = d} i c vis = credit-links (vis .call .final .at) (credit-call (i .facts .delays .found v d (vis .call .known) .unvisited) (vis .taken .puts) c (vis .call)) (vis .links) .0
+visiting-credit {v = v} {d = d} i c vis = credit-links (vis .call .final .at) (credit-call (i .facts .delays .found v d (vis .call .known) .unvisited) (vis .taken .puts) c (vis .call)) (vis .links)
 
 step-credit : {g : Network} {t : Tree} (fits : Fits g t) {src : ℕ} {s s₁ : State} → Inv g t src s → Credit g t (s .core) (s .frames) 0 (length (g .rows)) → Step g t s s₁ → Credit g t (s₁ .core) (s₁ .frames) 0 (length (g .rows))
 step-credit fits i c (visit v d s₁ vis) = credit-any (visiting-credit i c vis)
@@ -175,7 +175,7 @@ step-credit {g} {t} fits {src} {s} i c (expand f fs x d h base′ count′ h′ 
 step-credit {g} {t} fits {src} {s} i c (again f fs x β h ef going tk big based) = go (item fits (i .facts) (going .more) tk)
   where
     go : New t (s .core) (f .node) x ⊎ Again t (s .core) (s .frames) (i .lim) (f .node) x
-      → Credit g t (grown (s .core) (s .core .base) (s .core .count) h) (record { node = x; began = coarse t x (f .node) (s .core .count x) } ∷ s .frames) 0 (length (g .rows))
+      → Credit g t (shelved (s .core) h) (record { node = x; began = coarse t x (f .node) (s .core .count x) } ∷ s .frames) 0 (length (g .rows))
     go (inl a) = absurd (some-none based (a .shut))
     go (inr a) = credit-again fits i c (a .parent) (tk .puts)
 step-credit fits i c (rise f fs k count′ ef going now bare set) = credit-rise fits i c set
@@ -209,4 +209,4 @@ module _ {g : Network} {t : Tree} {src : ℕ} (given : Given g t src) {s : State
     → Links g t src 0 (called (s .core) final′ soFar′ (s .core .shelf)) k s₁ → s₁ .shelf .puts ≤ most-moves g t
   alone-few h call links =
       credit-most (given .sized) (alone-looking (given .fits) (given .station) blank h call links .facts .limits .room)
-        (credit-links (call .final .at) (credit-call (blank .final src) refl (blank-credit blank) call) links .0)
+        (credit-links (call .final .at) (credit-call (blank .final src) refl (blank-credit blank) call) links)

@@ -2,7 +2,7 @@
 use mathlib.Core.Path.{_≡_, refl, sym, ap, subst, _∙_}
 use mathlib.Core.List.{List, [], _∷_}
 use mathlib.Core.Logic.{_⊎_, inl, inr}
-use Prim.Native.Nat.{ℕ, zero, suc, _+_, _-_, _*_, _≤_, _<_}
+use Prim.Native.Nat.{ℕ, zero, suc, _+_, _-_, _≤_, _<_}
 use native.Mathlib.Omega.{arith}
 use native.Mathlib.Decide.{ℕ-discrete, decLt}
 use lib.ListN.{length}
@@ -10,24 +10,23 @@ use Rattle.std.specs.declared.option.Option.{Option}
 use Rattle.std.specs.declared.option.Option.the-variants.{Some, None}
 use Rattle.network.specs.Network.{Network}
 use Rattle.tree.specs.Tree.{Tree, Below, self, Fits}
-use Rattle.tree.proofs.Nodes.{node-of, station-only, above-other, rooted, tell, through, Through, Rooted}
+use Rattle.tree.proofs.Nodes.{node-of, station-only, above-other, tell, through}
 use Rattle.tree.proofs.Words.{some-none, same-some}
 use Rattle.walk.specs.declared.frame.Frame.{Frame}
 use Rattle.walk.specs.State.{Shelf, Core, State, called, counted}
-use Rattle.walk.specs.Rules.{Lowest, Nothing, Call, Links, begun, next}
-use Rattle.walk.specs.Steps.{Open, Going, Now, Taken, Ended, risen, Visiting, Blank, alone, root, visit, expand, again, rise, leave, end, Walk, begin, then, coarse, entered, left}
+use Rattle.walk.specs.Rules.{Call, begun, next}
+use Rattle.walk.specs.Steps.{Open, Going, Now, Taken, Ended, risen, Visiting, visit, expand, again, rise, leave, end, Walk, coarse, entered, left}
 use Rattle.walk.specs.Steps as steps
-use Rattle.walk.specs.Laws.{Given, Next, Next-by, Runs-to, Every-walk-goes-on, Every-source-has-a-run, most-moves, in-service}
+use Rattle.walk.specs.Laws.{Given, Next, Next-by, Every-walk-goes-on, most-moves}
 use Rattle.walk.proofs.Invariant.{Expanded, Inv}
-use Rattle.walk.proofs.Keep.{Change, change, top-expanded, the-stack}
+use Rattle.walk.proofs.Keep.{change, top-expanded, the-stack}
 use Rattle.walk.proofs.Take.{New, Again, item}
 use Rattle.walk.proofs.Visit.{next-link, visiting-looking}
-use Rattle.walk.proofs.Start.{alone-looking}
 use Rattle.walk.proofs.Settle.{walk-inv}
-use Rattle.walk.proofs.Moves.{moves-little, children-few, blank-children, alone-few}
+use Rattle.walk.proofs.Moves.{moves-little, children-few}
 use Rattle.walk.proofs.Ledger.{ends}
-use Rattle.walk.proofs.Ready.{least-of, place, base-le, least-above, top-free, child-free}
-use Rattle.walk.proofs.Follow.{places, expands, follow}
+use Rattle.walk.proofs.Ready.{place, base-le, least-above, top-free, child-free}
+use Rattle.walk.proofs.Follow.{places, Expands, expands, follow}
 
 -- a bounded search
 find : (P : ℕ → Type 0) → ((u : ℕ) → Dec (P u)) → (n : ℕ) → ((u : ℕ) × (u < n) × P u) ⊎ ((u : ℕ) → u < n → ¬ P u)
@@ -61,6 +60,21 @@ open-or-not {g} {t} fits final x = elim (find (λ u. Below t u x × (final u ≡
         go (yes a) (yes b) = yes (a, b)
         go (yes a) (no b) = no (λ q. b (q .1))
         go (no a) b = no (λ q. a (q .0))
+
+-- steps that take an item
+module _ {g : Network} {t : Tree} {s : State} where
+
+  visit-by : (v d : ℕ) (s₁ : Core) → Visiting g t s v d (length (g .rows)) s₁ → Next-by g t s v
+  visit-by v d s₁ vis = record { next = record { to = record { core = s₁; frames = s .frames }; step = visit v d s₁ vis }; item = refl }
+
+  expand-by : {f : Frame} {fs : List Frame} {c d : ℕ} {h : Shelf} → s .frames ≡ f ∷ fs → Going t (s .core) f → Taken t (s .core) (f .node) c h → t .stations ≤ c → s .core .base c ≡ None
+    → Expands t (s .core) c d h → Next-by g t s c
+  expand-by {f} {fs} {c} {d} {h} ef going tk big shut x =
+      record { next = record { to = entered s c (coarse t c (f .node) (x .count′ c)) (x .base′) (x .count′) (x .h′); step = expand f fs c d h (x .base′) (x .count′) (x .h′) ef going tk big shut (x .expand) }; item = refl }
+
+  again-by : {f : Frame} {fs : List Frame} {c : ℕ} {h : Shelf} → s .frames ≡ f ∷ fs → Going t (s .core) f → Taken t (s .core) (f .node) c h → t .stations ≤ c → Expanded (s .core .base) c → Next-by g t s c
+  again-by {f} {fs} {c} {h} ef going tk big e =
+      record { next = record { to = entered s c (coarse t c (f .node) (s .core .count c)) (s .core .base) (s .core .count) h; step = again f fs c (e .start) h ef going tk big (e .based) }; item = refl }
 
 module _ {g : Network} {t : Tree} {src : ℕ} (given : Given g t src) (limit : most-moves g t < 65535) {j : ℕ} {s : State} (w : Walk g t src j s) where
 
@@ -102,18 +116,15 @@ module _ {g : Network} {t : Tree} {src : ℕ} (given : Given g t src) (limit : m
 
       takes : New t (s .core) (f .node) c ⊎ Again t (s .core) (s .frames) (i .lim) (f .node) c → Dec (c < t .stations) → Next-by g t s c
       takes (inr a) (yes n) = absurd (omega (arith, i .facts .grown .inner c (a .expanded .start) (a .expanded .based) .above))
-      takes (inr a) (no n) =
-          record { next = record { to = entered s c (coarse t c (f .node) (s .core .count c)) (s .core .base) (s .core .count) h′; step = again f fs c (a .expanded .start) h′ ef going tk (omega arith) (a .expanded .based) }; item = refl }
+      takes (inr a) (no n) = again-by ef going tk (omega arith) (a .expanded)
       takes (inl a) (no n) =
-          let x = expands (given .fits) {s = s .core} (a .lowest) h′ (λ y q. tk .off .off y (λ z. above-other (given .fits) q self z) ∙ child-free (given .fits) (i .facts) q (a .shut))
-                    (omega (arith, tk .puts, children-few given w c (a .shut))) in
-          record { next = record { to = entered s c (coarse t c (f .node) (x .count′ c)) (x .base′) (x .count′) (x .h′);
-              step = expand f fs c (a .least) h′ (x .base′) (x .count′) (x .h′) ef going tk (omega arith) (a .shut) (x .expand) }; item = refl }
+          expand-by ef going tk (omega arith) (a .shut)
+            (expands (given .fits) {s = s .core} (a .lowest) h′ (λ y q. tk .off .off y (λ z. above-other (given .fits) q self z) ∙ child-free (given .fits) (i .facts) q (a .shut))
+              (omega (arith, tk .puts, children-few given w c (a .shut))))
       takes (inl a) (yes n) =
-          let nf = change (s .core .final) c (Some (a .least)) in
-          let ns = change (s .core .soFar) c None in
-          let r = visits n (record { known = ap (s .core .soFar) (sym (station-only (given .fits) n (a .lowest .inside .below))) ∙ a .lowest .known; final = nf .set; soFar = ns .set }) (length (g .rows)) (omega arith) in
-          record { next = record { to = record { core = r .0; frames = s .frames }; step = visit c (a .least) (r .0) (r .1) }; item = refl }
+          let known = ap (s .core .soFar) (sym (station-only (given .fits) n (a .lowest .inside .below))) ∙ a .lowest .known in
+          let r = visits n (record { known = known; final = change (s .core .final) c (Some (a .least)) .set; soFar = change (s .core .soFar) c None .set }) (length (g .rows)) (omega arith) in
+          visit-by c (a .least) (r .0) (r .1)
 
       pub by : Next-by g t s c
       by = takes (item (given .fits) (i .facts) (going .more) tk) (decLt c (t .stations))
@@ -153,60 +164,3 @@ goes-on g t src k s given limit w = record { here = go (s .frames) refl; taking 
     go : (fs : List Frame) → s .frames ≡ fs → (s .frames ≡ []) ⊎ Next g t s
     go [] e = inl e
     go (f ∷ fs) e = inr (next-step given limit w e)
-
--- a walk can begin
-record Begins (g : Network) (t : Tree) (src : ℕ) : Type 0 where
-  pub state : State
-  pub walk : Walk g t src 0 state
-
-begins : {g : Network} {t : Tree} (src : ℕ) → Given g t src → most-moves g t < 65535 → Begins g t src
-begins {g} {t} src given limit = go (through (r .below))
-  where
-    r : Rooted t src
-    r = rooted (given .fits) src
-    a : Change {A = Option ℕ} (λ (u : ℕ). None) src (Some 0)
-    a = change {A = Option ℕ} (λ (u : ℕ). None) src (Some 0)
-    s : State
-    s = record { core = record { final = λ u. None; soFar = a .to; base = λ x. None; count = λ x. 0; shelf = record { bucket = λ c. None; puts = 0 } }; frames = [] }
-    blank : Blank src s
-    blank = record { final = λ u. refl; soFar = a .set; base = λ x. refl; count = λ x. refl; bucket = λ c. refl; puts = refl; frames = refl }
-    go : (src ≡ r .root) ⊎ Through t src (r .root) → Begins g t src
-    go (inl e) = let l = all (length (g .rows)) (omega arith) in record { state = record { core = l .0; frames = [] }; walk = begin (alone (nf .to) (ns .to) (l .0) blank lone call (l .1)) }
-      where
-        lone : t .parent src ≡ None
-        lone = ap (t .parent) e ∙ r .top
-        nf : Change {A = Option ℕ} (λ (u : ℕ). None) src (Some 0)
-        nf = change {A = Option ℕ} (λ (u : ℕ). None) src (Some 0)
-        ns : Change (a .to) src None
-        ns = change (a .to) src None
-        call : Call (s .core) src 0 (nf .to) (ns .to)
-        call = record { known = a .set .at; final = nf .set; soFar = ns .set }
-        -- no link leads out of it, so none puts anything
-        all : (k : ℕ) → k ≤ length (g .rows) → (s₁ : Core) × Links g t src 0 (called (s .core) (nf .to) (ns .to) (s .core .shelf)) k s₁
-        all zero h = (called (s .core) (nf .to) (ns .to) (s .core .shelf), begun)
-        all (suc k) h =
-            let q = all k (omega arith) in
-            let z = alone-looking (given .fits) (given .station) blank lone call (q .1) in
-            let l = follow (given .fits) (z .facts) (given .station) (ap (λ (f : ℕ → Option ℕ). f src) (z .final) ∙ call .final .at) {k = k} (omega (arith, alone-few given blank lone call (q .1))) h in
-            (l .to, next (q .1) (l .link))
-    go (inr c) = pick (least-of (given .fits) (s .core .soFar) (r .root))
-      where
-        pick : ((d : ℕ) × Lowest t (s .core .soFar) (r .root) d) ⊎ Nothing t (s .core .soFar) (r .root) → Begins g t src
-        pick (inr q) = absurd (some-none (a .set .at) (q src (record { station = given .station; below = r .below })))
-        pick (inl (d, l)) =
-            let x = expands (given .fits) {s = s .core} l (s .core .shelf) (λ y q. refl) (omega (arith, blank-children given blank (r .root))) in
-            record { state = entered s (r .root) 0 (x .base′) (x .count′) (x .h′); walk = begin (root (r .root) d (x .base′) (x .count′) (x .h′) blank (given .fits .inner (c .child) (r .root) (c .parent) .above) (r .below) (r .top) (x .expand)) }
-
--- it goes on until it ends
-pub has-a-run : Every-source-has-a-run
-has-a-run g t src given limit =
-    let b = begins src given limit in
-    run (suc (22 * t .stations + 2 * in-service g)) 0 (b .state) (b .walk) (omega arith)
-  where
-    run : (fuel k : ℕ) (s : State) → Walk g t src k s → k + fuel ≡ suc (22 * t .stations + 2 * in-service g) → Runs-to g t src
-    run zero k s w e = absurd (omega (arith, ends g t src k s given w))
-    run (suc fuel) k s w e = go (goes-on g t src k s given limit w .here) (λ s₁ w₁. run fuel (suc k) s₁ w₁ (omega arith))
-      where
-        go : (s .frames ≡ []) ⊎ Next g t s → ((s₁ : State) → Walk g t src (suc k) s₁ → Runs-to g t src) → Runs-to g t src
-        go (inl z) later = record { state = s; run = record { steps = k; walk = w; over = z } }
-        go (inr n) later = later (n .to) (then w (n .step))
