@@ -21,7 +21,7 @@ use Rattle.walk.proofs.Start.{alone-looking}
 use Rattle.walk.proofs.Moves.{blank-children, alone-few}
 use Rattle.walk.proofs.Ledger.{ends}
 use Rattle.walk.proofs.Ready.{least-of}
-use Rattle.walk.proofs.Follow.{expands, follow}
+use Rattle.walk.proofs.Follow.{Expands, expands, follow}
 use Rattle.walk.proofs.Progress.{goes-on}
 
 -- a walk can begin
@@ -74,12 +74,14 @@ begins {g} {t} src given limit = go (through (r .below))
             (l .to, next (q .1) (l .link))
     go (inr c) = pick (least-of (given .fits) (s .core .soFar) (r .root))
       where
+        enter : {d : ℕ} → Expands t (s .core) (r .root) d (s .core .shelf) → Begins g t src
+        enter {d} x =
+            begun-by (root (r .root) d (x .base′) (x .count′) (x .h′) blank (given .fits .inner (c .child) (r .root) (c .parent) .above) (r .below) (r .top)
+            (x .expand))
+
         pick : ((d : ℕ) × Lowest t (s .core .soFar) (r .root) d) ⊎ Nothing t (s .core .soFar) (r .root) → Begins g t src
         pick (inr q) = absurd (some-none (a .set .at) (q src (record { station = given .station; below = r .below })))
-        pick (inl (d, l)) =
-            let x = expands (given .fits) {s = s .core} l (s .core .shelf) (λ y q. refl) (omega (arith, blank-children given blank (r .root))) in
-            begun-by (root (r .root) d (x .base′) (x .count′) (x .h′) blank (given .fits .inner (c .child) (r .root) (c .parent) .above) (r .below)
-            (r .top) (x .expand))
+        pick (inl (d, l)) = enter (expands (given .fits) {s = s .core} l (s .core .shelf) (λ y q. refl) (omega (arith, blank-children given blank (r .root))))
 
 -- it goes on until it ends
 pub has-a-run : Every-source-has-a-run

@@ -215,7 +215,7 @@ module _ {g : Network} {t : Tree} {src : ℕ} (given : Given g t src) (limit : m
         go [] st = omega arith
         go (f ∷ fs) st =
             let e = top-expanded st in
-            omega (arith, deep st, given .fits .high (f .node) (i .facts .grown .inner (f .node) (e .start) (e .based)))
+            omega (arith, deep st, given .fits .positive (f .node) (i .facts .grown .inner (f .node) (e .start) (e .based)))
 
 pub is-able : Every-walk-is-able
 is-able g t src k s given limit w = record { able = λ f fs ef. able given limit w ef; apt = λ v d j s₁ vis. visiting-apt given limit w vis }

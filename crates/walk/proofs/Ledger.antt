@@ -130,8 +130,9 @@ module _ {t : Tree} {s : State} {k : ℕ} (l : Ledger t s k) {x c : ℕ} {h′ :
             )
             | no z ↦ omega (arith, took .set .off y z, l .stock .paid y)
           ];
-          here = λ y b q. let z : y ≢ c = λ z. some-none q (ap (h′ .bucket) z ∙ tk .off .at) in omega
-              (arith, took .set .off y z, l .stock .here y b (sym (tk .off .off y z) ∙ q));
+          here = λ y b q.
+              let z : y ≢ c = λ z. some-none q (ap (h′ .bucket) z ∙ tk .off .at) in
+              omega (arith, took .set .off y z, l .stock .here y b (sym (tk .off .off y z) ∙ q));
         };
       }
 
@@ -328,7 +329,7 @@ moves-enough g t src k s given w two = go (t .parent src) refl
     sole : t .parent src ≡ None → (v d : ℕ) → s .core .final v ≡ Some d → v ≡ src
     sole h v d e = station-only (given .fits) (given .station) (stay (given .fits) h self (i .facts .delays .exact v d e .attained .route))
 
-    each : (p : ℕ) → t .parent src ≡ Some p → (v : ℕ) → v < t .stations → (o q : Option ℕ) → s .core .final v ≡ o → t .parent v ≡ q → laws.one o ≤ l .takes v
+    each : (p : ℕ) → t .parent src ≡ Some p → (v : ℕ) → v < t .stations → (o q : Option ℕ) → s .core .final v ≡ o → t .parent v ≡ q → laws.one-if o ≤ l .takes v
     each p h v m None q e z = omega arith
     each p h v m (Some d) (Some q) e z = l .seen v d q e z
     each p h v m (Some d) None e z = absurd (some-none h (ap (t .parent) (lone v d m e z) ∙ z))
@@ -336,7 +337,7 @@ moves-enough g t src k s given w two = go (t .parent src) refl
     only : Change {A = ℕ} (λ x. 0) src 1
     only = change {A = ℕ} (λ x. 0) src 1
 
-    one-only : t .parent src ≡ None → (v : ℕ) → (o : Option ℕ) → s .core .final v ≡ o → Dec (v ≡ src) → laws.one o ≤ only .to v
+    one-only : t .parent src ≡ None → (v : ℕ) → (o : Option ℕ) → s .core .final v ≡ o → Dec (v ≡ src) → laws.one-if o ≤ only .to v
     one-only h v None e z = omega arith
     one-only h v (Some d) e (yes z) = omega (arith, ap (only .to) z, only .set .at)
     one-only h v (Some d) e (no z) = absurd (z (sole h v d e))
@@ -345,7 +346,7 @@ moves-enough g t src k s given w two = go (t .parent src) refl
     go (Some p) h =
         omega (
           arith,
-          total-mono (λ v. laws.one (s .core .final v)) (l .takes) (t .stations) (λ v m. each p h v m (s .core .final v) (t .parent v) refl refl),
+          total-mono (λ v. laws.one-if (s .core .final v)) (l .takes) (t .stations) (λ v m. each p h v m (s .core .final v) (t .parent v) refl refl),
           total-longer (l .takes) (t .stations) (t .nodes) (omega (arith, given .fits .inner src p h .above, given .fits .inner src p h .below)),
           total-mono (l .takes) (l .puts) (t .nodes) (λ x q. l .stock .paid x),
           l .stock .few,
@@ -353,7 +354,7 @@ moves-enough g t src k s given w two = go (t .parent src) refl
     go None h =
         absurd (omega (
           arith,
-          total-mono (λ v. laws.one (s .core .final v)) (only .to) (t .stations)
+          total-mono (λ v. laws.one-if (s .core .final v)) (only .to) (t .stations)
               (λ v m. one-only h v (s .core .final v) refl (ℕ-discrete v src)),
           total-changed (λ x. 0) (only .to) src (t .stations) (given .station) (only .set .off),
           only .set .at,

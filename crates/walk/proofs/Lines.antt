@@ -68,7 +68,7 @@ module _ {g : Network} {t : Tree} (fits : Fits g t) {x p : ℕ} (h : t .parent x
   ratio-pos = pow-pos (t .level p - t .level x)
 
   widths : width t p ≡ ratio t x p * width t x
-  widths = ap (λ k. 2 ^ k) (split (t .level p) (t .level x) (fits .high x i) (fits .rising x p h)) ∙ pow-add 2 (t .level p - t .level x) (t .level x - 1)
+  widths = ap (λ k. 2 ^ k) (split (t .level p) (t .level x) (fits .positive x i) (fits .rising x p h)) ∙ pow-add 2 (t .level p - t .level x) (t .level x - 1)
     where
       split : (a b : ℕ) → 1 ≤ b → b < a → a - 1 ≡ (a - b) + (b - 1)
       split a b h l = omega arith

@@ -30,7 +30,8 @@ pub record Apt (g : Network) (t : Tree) (s : Core) (v d k : ℕ) : Type 0 where
   pub few : s .shelf .puts < 65535
   pub shut : (u : ℕ) → u < t .stations → s .base u ≡ None
   pub front : (u : ℕ) → Hop g k v u → s .final u ≡ None → Fronted t (s .base) u
-  pub ready : (u c : ℕ) (soFar′ : ℕ → Option ℕ) → Hop g k v u → s .final u ≡ None → Changed (s .soFar) u (Some (d + delay g k)) soFar′ → Front t (s .base) u c → Ready t soFar′ (s .base) c
+  pub ready : (u c : ℕ) (soFar′ : ℕ → Option ℕ) → Hop g k v u → s .final u ≡ None
+      → Changed (s .soFar) u (Some (d + delay g k)) soFar′ → Front t (s .base) u c → Ready t soFar′ (s .base) c
 
 -- c stands in the bucket k of x, at which the counter of x is
 pub record Due-now (t : Tree) (s : Core) (x c : ℕ) : Type 0 where
