@@ -6,7 +6,8 @@ use Prim.Native.Nat.{ℕ, suc, _+_, _-_, _/_, _≤_, _<_}
 use native.Mathlib.Omega.{arith}
 use native.Mathlib.Decide.{ℕ-discrete, decLt}
 use native.Mathlib.Nat.{mul-comm}
-use lib.ListN.{length}
+use lib.ListN.{length, getD}
+use mathlib.Core.Bool.{Bool, true, false, cond}
 use lib.Pow.{shr-mono}
 use Rattle.std.specs.declared.option.Option.{Option}
 use Rattle.std.specs.declared.option.Option.the-variants.{Some, None}
@@ -15,13 +16,14 @@ use Rattle.tree.specs.Tree.{Tree, Below, Inner, Near, Fits, width}
 use Rattle.tree.proofs.Laws-of-routes.{join}
 use Rattle.tree.proofs.Nodes.{in-parent, nest, root-top, rooted, holder, below-inner, station-only}
 use Rattle.tree.proofs.Routes.{stay, route-ends}
+use Rattle.tree.proofs.Totals.{total-mono, total-ones}
 use Rattle.tree.proofs.Words.{some-none}
 use Rattle.walk.specs.declared.frame.Frame.{Frame}
-use Rattle.walk.specs.State.{Shelf, Core, State, Changed, called, counted}
-use Rattle.walk.specs.Rules.{Lowest, Placed, nothing, Moved, there, moved, Front, Links, Call, Puts, done, put}
-use Rattle.walk.specs.Steps.{Open, Visiting, Blank, Walk}
+use Rattle.walk.specs.State.{Shelf, Core, State, Changed, called}
+use Rattle.walk.specs.Rules.{Lowest, Counted, nothing, one, Placed, Moved, there, moved, Front, Links, Call, Puts, done, put}
+use Rattle.walk.specs.Steps.{Open, Going, Taken, Visiting, Blank, Walk}
 use Rattle.walk.specs.Laws.{Given, most-moves, Every-walk-is-able}
-use Rattle.walk.specs.Able.{Ready, Apt, Able, Due-now}
+use Rattle.walk.specs.Able.{Ready, Apt, Safe, Able, Due-now}
 use Rattle.walk.proofs.Lines.{line-mono, suc-line, width-pos}
 use Rattle.walk.proofs.Invariant.{Expanded, Stack, bottom, above, Facts, Inv}
 use Rattle.walk.proofs.Keep.{change, top-expanded, the-stack}
@@ -51,6 +53,15 @@ pub puts-then : {t : Tree} {soFar base : ℕ → Option ℕ} {cs ds : List ℕ} 
 puts-then done q = q
 puts-then (put b bel p r) q = put b bel p (puts-then r q)
 
+-- each child adds at most one to the count, and moves itself alone (Keep.puts-off)
+pub puts-few : {t : Tree} {soFar base : ℕ → Option ℕ} {cs : List ℕ} {h h₁ : Shelf} → Puts t soFar base cs h h₁ → h₁ .puts ≤ h .puts + length cs
+puts-few done = omega arith
+puts-few (put b bel p r) = omega (arith, puts-few r, add-few (p .counted))
+  where
+    add-few : {t : Tree} {c puts puts′ : ℕ} {b : Option ℕ} → Counted t c b puts puts′ → puts′ ≤ suc puts
+    add-few (nothing n e) = omega arith
+    add-few (one k n gr e) = omega arith
+
 -- at an expansion it can be told where each child belongs
 pub child-ready : {t : Tree} {soFar base base′ : ℕ → Option ℕ} {x c d : ℕ} → Lowest t soFar x d → Changed base x (Some (d / width t x)) base′
     → t .parent c ≡ Some x → Ready t soFar base′ c
@@ -65,6 +76,15 @@ child-ready {t} {x = x} {d = d} l set h =
     }
 
 -- Reading off a walk what holds.
+
+-- a book is small enough for the shelf's count
+pub small-enough : (g : Network) (t : Tree) → t .stations ≤ 512 → length (g .rows) ≤ 2048 → most-moves g t < 65535
+small-enough g t n m =
+    omega (arith, total-mono (λ k. cond (getD (g .service) k false) 1 0) (λ k. 1) (length (g .rows)) (λ k h. at-most (getD (g .service) k false)), total-ones (length (g .rows)))
+  where
+    at-most : (b : Bool) → cond b 1 0 ≤ 1
+    at-most true = omega arith
+    at-most false = omega arith
 
 -- following a link, in the midst of the links of a visited station
 module _ {g : Network} {t : Tree} (fits : Fits g t) {src : ℕ} {s : Core} {fs : List Frame} {lim : ℕ → ℕ} (facts : Facts g t src s fs lim)
@@ -88,12 +108,16 @@ module _ {g : Network} {t : Tree} (fits : Fits g t) {src : ℕ} {s : Core} {fs :
 
 module _ {g : Network} {t : Tree} {src : ℕ} (given : Given g t src) (limit : most-moves g t < 65535) where
   -- the lone source at the start
-  pub alone-apt : {s : State} {final′ soFar′ : ℕ → Option ℕ} {k : ℕ} {s₁ : Core} → Blank src s → t .parent src ≡ None → Call (s .core) src 0 final′ soFar′
+  alone-apt : {s : State} {final′ soFar′ : ℕ → Option ℕ} {k : ℕ} {s₁ : Core} → Blank src s → t .parent src ≡ None → Call (s .core) src 0 final′ soFar′
       → Links g t src 0 (called (s .core) final′ soFar′ (s .core .shelf)) k s₁ → Apt g t s₁ src 0 k
   alone-apt {k = k} blank h call links =
       let z = alone-looking (given .fits) (given .station) blank h call links in
       apt-from (given .fits) (z .facts) (given .station) (ap (λ (f : ℕ → Option ℕ). f src) (z .final) ∙ call .final .at)
       (omega (arith, alone-few given blank h call links)) k
+
+  pub alone-safe : {s : State} {final′ soFar′ : ℕ → Option ℕ} → Blank src s → t .parent src ≡ None → Call (s .core) src 0 final′ soFar′
+      → Safe g t (called (s .core) final′ soFar′ (s .core .shelf)) src 0
+  alone-safe blank h call k s₁ links = alone-apt blank h call links
 
   module _ {n : ℕ} {s : State} (w : Walk g t src n s) where
     i : Inv g t src s
@@ -105,6 +129,11 @@ module _ {g : Network} {t : Tree} {src : ℕ} (given : Given g t src) (limit : m
         let z = visiting-looking (given .fits) i vis in
         apt-from (given .fits) (z .facts) (vis .station) (ap (λ (f : ℕ → Option ℕ). f v) (z .final) ∙ vis .call .final .at)
         (omega (arith, moves-little g t src n s given w .between v d k s₁ vis)) k
+
+    pub visit-safe : {f : Frame} {fs : List Frame} {v d : ℕ} {h : Shelf} {final′ soFar′ : ℕ → Option ℕ} → s .frames ≡ f ∷ fs → Going t (s .core) f
+        → Taken t (s .core) (f .node) v h → v < t .stations → Call (s .core) v d final′ soFar′ → Safe g t (called (s .core) final′ soFar′ h) v d
+    visit-safe {f} {fs} {h = h} {final′ = final′} {soFar′ = soFar′} ef going tk small call k s₁ links =
+        visiting-apt (record { f = f; fs = fs; top = ef; going = going; h′ = h; taken = tk; station = small; final′ = final′; soFar′ = soFar′; call = call; links = links })
 
     -- a step
     pub able : {f : Frame} {fs : List Frame} → s .frames ≡ f ∷ fs → Able t (s .core) f
