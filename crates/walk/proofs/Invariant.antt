@@ -38,7 +38,7 @@ pub record Known (soFar : ℕ → Option ℕ) (u d : ℕ) : Type 0 where
   pub known : soFar u ≡ Some y
   pub near : y ≤ d
 
--- Dijkstra's facts
+-- delays: a final one is least, one of the keeper is that of a route, and the source is known from the start
 pub record Delays (g : Network) (t : Tree) (src : ℕ) (final soFar : ℕ → Option ℕ) : Type 0 where
   pub exact : (w d : ℕ) → final w ≡ Some d → Least g src w d
   pub found : (u y : ℕ) → soFar u ≡ Some y → Found g t src final u y
