@@ -18,8 +18,9 @@ Inside l n = (i b : ℕ) → getD l i None ≡ Some b → b < n
 -- only an item that exists stands in a bucket
 pub listed : (l : List (Option ℕ)) (i b : ℕ) → getD l i None ≡ Some b → i < length l
 listed l i b e = elim (cases-lt i (length l)) [
-      inl h ↦ h
-    | inr h ↦ let n = getD-past l i None h in let z : _≡_ {A = ℕ} 0 1 = cc in omega arith ]
+  | inl h ↦ h
+  | inr h ↦ let n = getD-past l i None h in let z : _≡_ {A = ℕ} 0 1 = cc in omega arith
+]
 
 -- what is read after a write was written, or stood there before
 pub read-set : {A : Type 0} (l : List A) (i k : ℕ) (x d y : A) → getD (set l i x) k d ≡ y → (x ≡ y) ⊎ (getD l k d ≡ y)
@@ -31,18 +32,21 @@ read-set (z ∷ l) (suc i) (suc k) x d y h = read-set l i k x d y h
 
 pub inside-lifted : (l : List (Option ℕ)) (n i : ℕ) → Inside l n → Inside (set l i None) n
 inside-lifted l n i h k b e = elim (read-set l i k None None (Some b) e) [
-      inl w ↦ let z : _≡_ {A = ℕ} 0 1 = cc in omega arith
-    | inr w ↦ h k b w ]
+  | inl w ↦ let z : _≡_ {A = ℕ} 0 1 = cc in omega arith
+  | inr w ↦ h k b w
+]
 
 pub inside-placed : (l : List (Option ℕ)) (n i a : ℕ) → a < n → Inside l n → Inside (set l i (Some a)) n
 inside-placed l n i a lt h k b e = elim (read-set l i k (Some a) None (Some b) e) [
-      inl w ↦ let z : a ≡ b = cc in omega arith
-    | inr w ↦ h k b w ]
+  | inl w ↦ let z : a ≡ b = cc in omega arith
+  | inr w ↦ h k b w
+]
 
 pub none-blank : (n i : ℕ) → getD (replicate {A = Option ℕ} n None) i None ≡ None
 none-blank n i = elim (cases-lt i n) [
-      inl l ↦ getD-replicate n i None None l
-    | inr l ↦ (let p : length (replicate {A = Option ℕ} n None) ≤ i = simp length-replicate (omega arith) in getD-past (replicate n None) i None p) ]
+  | inl l ↦ getD-replicate n i None None l
+  | inr l ↦ (let p : length (replicate {A = Option ℕ} n None) ≤ i = simp length-replicate (omega arith) in getD-past (replicate n None) i None p)
+]
 
 pub inside-blank : (l : List (Option ℕ)) (m n : ℕ) → l ≡ replicate m None → Inside l n
 inside-blank l m n e i b h = let w = none-blank m i in let z : _≡_ {A = ℕ} 0 1 = cc in omega arith

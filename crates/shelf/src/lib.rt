@@ -19,7 +19,9 @@ pub trait Shelf {
     ghost meaning: { Self → Holds };
 
     law sized: { (s : Self) → length (meaning s .at) ≡ meaning s .items };
+
     law inside: { (s : Self) (i b : ℕ) → bucketAt (meaning s) i ≡ Some b → b < meaning s .buckets };
+
     law counted: { (s : Self) → meaning s .puts ≤ 65535 };
 
     /// How many items there are.

@@ -38,7 +38,11 @@ pub impl Shelf for Marks as MarksShelf {
 
     fn bucket_of(&self, item: u32) -> Option<u32> {
         let i = item as usize;
-        if i < self.marks.len() { self.marks[i] } else { None }
+        if i < self.marks.len() {
+            self.marks[i]
+        } else {
+            None
+        }
     }
 
     fn clear(&mut self) {

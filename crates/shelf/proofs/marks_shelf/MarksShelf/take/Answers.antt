@@ -18,9 +18,10 @@ ghost-self c =
 
 pub returns : need.returns
 returns c =
-    let same = c .loop-i .inv .0 in
-    (λ i e.
-      let l = listed (vec-items (c .args .self .now .marks)) i (c .args .bucket) e in
-      let below : i < c .loop-i .i = omega arith in
-      c .loop-i .inv .1 i below (ap (λ (s : Marks). bucketAt (marksHold s) i) same ∙ e),
-     ap marksHold same)
+    let same = c .loop-i .inv .0 in (
+      λ i e.
+          let l = listed (vec-items (c .args .self .now .marks)) i (c .args .bucket) e in
+          let below : i < c .loop-i .i = omega arith in
+          c .loop-i .inv .1 i below (ap (λ (s : Marks). bucketAt (marksHold s) i) same ∙ e),
+      ap marksHold same,
+    )
