@@ -1,1 +1,4 @@
+pub mod Held
+pub mod Linking
+pub mod Rings
 pub mod Seats

@@ -1,6 +1,6 @@
 -- Lists of buckets or nowhere, one for each item.
 use native.Mathlib.Omega.{arith}
-use mathlib.Core.Path.{_≡_, sym, _∙_}
+use mathlib.Core.Path.{_≡_, refl, sym, _∙_}
 use mathlib.Core.Logic.{_⊎_, inl, inr}
 use mathlib.Core.List.{List, [], _∷_}
 use Prim.Native.Nat.{ℕ, zero, suc, _<_, _≤_}
@@ -41,6 +41,19 @@ inside-placed l n i a lt h k b e = elim (read-set l i k (Some a) None (Some b) e
   | inl w ↦ let z : a ≡ b = cc in omega arith
   | inr w ↦ h k b w
 ]
+
+-- an item that is lifted is nowhere, and so is each that was
+pub none-at : (l : List (Option ℕ)) (i : ℕ) → getD (set l i None) i None ≡ None
+none-at [] i = refl
+none-at (x ∷ l) zero = refl
+none-at (x ∷ l) (suc i) = none-at l i
+
+pub none-stays : (l : List (Option ℕ)) (i k : ℕ) → getD l k None ≡ None → getD (set l i None) k None ≡ None
+none-stays [] i k e = e
+none-stays (x ∷ l) zero zero e = refl
+none-stays (x ∷ l) zero (suc k) e = e
+none-stays (x ∷ l) (suc i) zero e = e
+none-stays (x ∷ l) (suc i) (suc k) e = none-stays l i k e
 
 pub none-blank : (n i : ℕ) → getD (replicate {A = Option ℕ} n None) i None ≡ None
 none-blank n i = elim (cases-lt i n) [

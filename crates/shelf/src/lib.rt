@@ -1,6 +1,8 @@
 //! Shelves, which the field calls bucket queues: items that stand in numbered buckets or nowhere. The trait says what every shelf
 //! does; chains and marks are two of them.
 
+pub mod chains;
+pub mod chains_shelf;
 pub mod marks;
 pub mod marks_shelf;
 
