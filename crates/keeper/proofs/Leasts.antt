@@ -127,6 +127,13 @@ take-first f best low high lt =
 pub all-taken : (f : ℕ → Option ℕ) (best : Option ℕ) (low high : ℕ) → high ≤ low → lesserOf best (leastIn f low (high - low)) ≡ best
 all-taken f best low high le = let e : high - low ≡ 0 = omega arith in ap (λ (n : ℕ). lesserOf best (leastIn f low n)) e ∙ lesser-none best
 
+-- a blank list has no delay
+pub none-blank : (n i : ℕ) → getD (replicate {A = Option ℕ} n None) i None ≡ None
+none-blank n i = elim (cases-lt i n) [
+  | inl l ↦ getD-replicate n i None None l
+  | inr l ↦ (let p : length (replicate {A = Option ℕ} n None) ≤ i = simp length-replicate (omega arith) in getD-past (replicate n None) i None p)
+]
+
 -- where no place has a delay, the list is blank
 pub all-none : (l : List (Option ℕ)) (n : ℕ) → length l ≡ n → ((i : ℕ) → i < n → getD l i None ≡ None) → l ≡ replicate n None
 all-none l n e h = ext-getD None l (replicate n None) (e ∙ sym (length-replicate n None))

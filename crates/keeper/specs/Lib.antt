@@ -1,3 +1,4 @@
 pub mod Keeps
 pub mod Lesser
 pub mod Means
+pub mod Trees

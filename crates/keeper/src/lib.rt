@@ -4,6 +4,8 @@
 pub(crate) mod lesser;
 pub mod table;
 pub mod table_keeper;
+pub mod tree;
+pub mod tree_keeper;
 
 ghost use mathlib.Core.Bool.{true, false};
 ghost use mathlib.Core.Path.{_≡_};
