@@ -1,11 +1,9 @@
 //! Keepers: delays at numbered places, of which the smallest over a run of places can be asked (the field speaks of range minimum
-//! queries with point updates). The trait says what every keeper does; a table and a tree are two of them.
+//! queries with point updates). The trait says what every keeper does; a table is one.
 
-pub(crate) mod lesser;
+pub mod lesser;
 pub mod table;
 pub mod table_keeper;
-pub mod tree;
-pub mod tree_keeper;
 
 ghost use mathlib.Core.Bool.{true, false};
 ghost use mathlib.Core.Path.{_≡_};

@@ -1,4 +1,1 @@
-pub mod Held
-pub mod Linking
-pub mod Rings
 pub mod Seats

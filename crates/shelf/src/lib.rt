@@ -1,8 +1,6 @@
 //! Shelves, which the field calls bucket queues: items that stand in numbered buckets or nowhere. The trait says what every shelf
-//! does; chains and marks are two of them.
+//! does; a shelf of marks is one.
 
-pub mod chains;
-pub mod chains_shelf;
 pub mod marks;
 pub mod marks_shelf;
 

@@ -73,7 +73,8 @@ pub impl Shelf for Marks as MarksShelf {
     }
 
     fn take(&mut self, bucket: u32) -> Option<u32> {
-        for i in 0..self.marks.len() {
+        let n = self.marks.len();
+        for i in 0..n {
             if self.marks[i] == Some(bucket) {
                 self.marks[i] = None;
                 return Some(i as u32);
