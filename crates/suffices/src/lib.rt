@@ -1,0 +1,4 @@
+//! The meanings suffice: functions over any shelf and over any keeper, proved from the meaning alone.
+
+pub mod others;
+pub mod passed;
