@@ -87,19 +87,31 @@ fn keepers_alike<A: Keeper, B: Keeper>(a: &mut A, b: &mut B, many: u32) -> u32 {
     alike
 }
 
-fn print_shelves(rt: &LibcRuntime, items: u32, buckets: u32, many: u32, clears: u32) -> io::Result<()> {
+fn print_shelves(
+    rt: &LibcRuntime,
+    items: u32,
+    buckets: u32,
+    many: u32,
+    clears: u32,
+) -> io::Result<()> {
     let mut chains = Chains::new(rt.alloc(), items, buckets)?;
     let mut marks = Marks::new(rt.alloc(), items, buckets)?;
     let alike = shelves_alike(&mut chains, &mut marks, many, clears);
     let count = marks.count();
-    println!(rt, "{items} items, {buckets} buckets: chains and marks agree on {alike} of {many} calls; the last count is {count}")
+    println!(
+        rt,
+        "{items} items, {buckets} buckets: chains and marks agree on {alike} of {many} calls; the last count is {count}"
+    )
 }
 
 fn print_keepers(rt: &LibcRuntime, places: u32, many: u32) -> io::Result<()> {
     let mut table = Table::new(rt.alloc(), places)?;
     let mut tree = Tree::new(rt.alloc(), places)?;
     let alike = keepers_alike(&mut table, &mut tree, many);
-    println!(rt, "{places} places: table and tree agree on {alike} of {many} calls")
+    println!(
+        rt,
+        "{places} places: table and tree agree on {alike} of {many} calls"
+    )
 }
 
 /// Compares shelves and keepers of several sizes, and lets the count of puts reach its end once.

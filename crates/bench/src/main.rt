@@ -12,5 +12,9 @@ use std::io;
 fn main(rt: LibcRuntime) -> io::Result<()> {
     let mut words = env::args(&rt)?;
     let _ = words.next();
-    if words.next().is_some() { times::print_all(&rt) } else { compare::print_all(&rt) }
+    if words.next().is_some() {
+        times::print_all(&rt)
+    } else {
+        compare::print_all(&rt)
+    }
 }

@@ -18,7 +18,9 @@ impl Random {
         if n == 0 {
             return 0;
         }
-        self.state = self.state.wrapping_mul(6364136223846793005).wrapping_add(1442695040888963407);
+        self.state = self.state
+            .wrapping_mul(6364136223846793005)
+            .wrapping_add(1442695040888963407);
         (self.state >> 33u32) as u32 % n
     }
 }

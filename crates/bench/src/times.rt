@@ -24,7 +24,10 @@ fn time_shelf<S: Shelf>(rt: &LibcRuntime, name: &str, shelf: &mut S) -> io::Resu
     let start = Instant::now(rt)?;
     let seen = drive_shelf(shelf, MANY, &mut random);
     let micros = start.elapsed(rt)?.as_micros();
-    println!(rt, "{name:8} {items:6} items: {MANY} puts, takes and lifts in {micros:8} us ({seen})")
+    println!(
+        rt,
+        "{name:8} {items:6} items: {MANY} puts, takes and lifts in {micros:8} us ({seen})"
+    )
 }
 
 fn time_keeper<K: Keeper>(rt: &LibcRuntime, name: &str, keeper: &mut K) -> io::Result<()> {
@@ -36,7 +39,10 @@ fn time_keeper<K: Keeper>(rt: &LibcRuntime, name: &str, keeper: &mut K) -> io::R
     let again = Instant::now(rt)?;
     let seen = ask_keeper(keeper, MANY, &mut random);
     let leasts = again.elapsed(rt)?.as_micros();
-    println!(rt, "{name:8} {places:6} places: {MANY} lowers and retires in {changes:8} us, {MANY} leasts in {leasts:8} us ({lowered}, {seen})")
+    println!(
+        rt,
+        "{name:8} {places:6} places: {MANY} lowers and retires in {changes:8} us, {MANY} leasts in {leasts:8} us ({lowered}, {seen})"
+    )
 }
 
 /// Times shelves of so many items.

@@ -3,10 +3,10 @@ use native.Mathlib.Omega.{arith}
 use mathlib.Core.Path.{_≡_, refl, sym, ap, _∙_}
 use mathlib.Core.Logic.{_⊎_, inl, inr, _≢_}
 use mathlib.Core.List.{List}
-use Prim.Native.Nat.{ℕ, zero, suc, _+_, _-_, _*_, _/_, _%_, _<_, _≤_}
+use Prim.Native.Nat.{ℕ, zero, suc, min, _+_, _-_, _*_, _/_, _%_, _<_, _≤_}
 use lib.ListN.{length, getD, set, drop, replicate}
 use lib.Seq.{getD-set-same, getD-set-other}
-use Rattle.std.proofs.shelf.Tests.{cases-eq}
+use Rattle.std.proofs.shelf.Tests.{cases-eq, cases-lt}
 use Rattle.std.proofs.shelf.Lists.{getD-drop, drop-replicate}
 use Rattle.std.specs.declared.option.Option.{Option}
 use Rattle.std.specs.declared.option.Option.the-variants.{Some, None}
@@ -36,19 +36,40 @@ least-last f from (suc many) =
     ap (lesserOf (f from)) (least-last f (from + 1) many ∙ ap (λ (k : ℕ). lesserOf (leastIn f (from + 1) many) (f k)) e)
     ∙ sym (lesser-assoc (f from) (leastIn f (from + 1) many) (f (from + suc many)))
 
--- the last of a row is taken into the best so far
-pub take-last : (f : ℕ → Option ℕ) (best : Option ℕ) (low high : ℕ) → low < high
-    → lesserOf (lesserOf best (f (high - 1))) (leastIn f low (high - 1 - low)) ≡ lesserOf best (leastIn f low (high - low))
-take-last f best low high lt =
-    let many = high - 1 - low in
-    let e : high - low ≡ suc many = omega arith in
-    let at : low + many ≡ high - 1 = omega arith in
-    lesser-assoc best (f (high - 1)) (leastIn f low many)
-    ∙ ap (lesserOf best)
-    (lesser-comm (f (high - 1)) (leastIn f low many)
-    ∙ ap (λ (k : ℕ). lesserOf (leastIn f low many) (f k)) (sym at)
-    ∙ sym (least-last f low many)
-    ∙ ap (leastIn f low) (sym e))
+-- a row from low to below high
+abbrev pub row : (ℕ → Option ℕ) → ℕ → ℕ → Option ℕ
+row f low high = leastIn f low (high - low)
+
+row-first : (f : ℕ → Option ℕ) (low high : ℕ) → low < high → row f low high ≡ lesserOf (f low) (row f (low + 1) high)
+row-first f low high lt = let e : high - low ≡ suc (high - (low + 1)) = omega arith in ap (leastIn f low) e
+
+row-last : (f : ℕ → Option ℕ) (low high : ℕ) → low < high → row f low high ≡ lesserOf (row f low (high - 1)) (f (high - 1))
+row-last f low high lt =
+    let e : high - low ≡ suc (high - 1 - low) = omega arith in
+    let at : low + (high - 1 - low) ≡ high - 1 = omega arith in
+    ap (leastIn f low) e ∙ least-last f low (high - 1 - low) ∙ ap (λ (k : ℕ). lesserOf (row f low (high - 1)) (f k)) at
+
+lesser-same : (a : Option ℕ) → lesserOf a a ≡ a
+lesser-same None = refl
+lesser-same (Some x) = let e : min x x ≡ x = omega arith in ap Some e
+
+-- the ends of a row are no less than its least
+first-in : (f : ℕ → Option ℕ) (low high : ℕ) → low < high → lesserOf (f low) (row f low high) ≡ row f low high
+first-in f low high lt =
+    let e = row-first f low high lt in
+    ap (lesserOf (f low)) e
+    ∙ sym (lesser-assoc (f low) (f low) (row f (low + 1) high))
+    ∙ ap (λ (x : Option ℕ). lesserOf x (row f (low + 1) high)) (lesser-same (f low))
+    ∙ sym e
+
+last-in : (f : ℕ → Option ℕ) (low high : ℕ) → low < high → lesserOf (f (high - 1)) (row f low high) ≡ row f low high
+last-in f low high lt =
+    let e = row-last f low high lt in
+    lesser-comm (f (high - 1)) (row f low high)
+    ∙ ap (λ (x : Option ℕ). lesserOf x (f (high - 1))) e
+    ∙ lesser-assoc (row f low (high - 1)) (f (high - 1)) (f (high - 1))
+    ∙ ap (lesserOf (row f low (high - 1))) (lesser-same (f (high - 1)))
+    ∙ sym e
 
 double : ℕ → ℕ
 double zero = zero
@@ -72,15 +93,81 @@ pairs f from (suc many) over =
     ∙ ap (λ (x : Option ℕ). lesserOf x (leastIn f (2 * (from + 1)) (double many))) (sym h)
     ∙ ap (lesserOf (f from)) (pairs f (from + 1) many (λ k l b. over k (omega arith) (omega arith)))
 
-pub halved : (n : ℕ) (f : ℕ → Option ℕ) → Over n f → (low high : ℕ) → 1 ≤ low → low < high → high ≤ 2 * n → low % 2 ≡ 0 → high % 2 ≡ 0
-    → leastIn f low (high - low) ≡ leastIn f (low / 2) (high / 2 - low / 2)
-halved n f over low high one lt top el eh =
+halved : (n : ℕ) (f : ℕ → Option ℕ) → Over n f → (low high : ℕ) → 1 ≤ low → low ≤ high → high ≤ 2 * n → low % 2 ≡ 0 → high % 2 ≡ 0
+    → row f low high ≡ row f (low / 2) (high / 2)
+halved n f over low high one le top el eh =
     let many = high / 2 - low / 2 in
     let a : low ≡ 2 * (low / 2) = omega arith in
     let b : high - low ≡ double many = (let d = double-is many in omega arith) in
     ap (leastIn f low) b
     ∙ ap (λ (x : ℕ). leastIn f x (double many)) a
     ∙ pairs f (low / 2) many (λ k l u. over k (omega arith, omega arith))
+
+-- a row is as low as its two ends and the row above it
+pub climbed : (n : ℕ) (f : ℕ → Option ℕ) → Over n f → (low high : ℕ) → 1 ≤ low → low < high → high ≤ 2 * n
+    → lesserOf (lesserOf (f low) (f (high - 1))) (row f ((low + 1) / 2) (high / 2)) ≡ row f low high
+climbed n f over low high one lt top =
+    let a = f low in
+    let b = f (high - 1) in
+    elim (parity low) [
+      | inl el ↦ elim (parity high) [
+        | inl eh ↦ (
+            let up : row f ((low + 1) / 2) (high / 2) ≡ row f low high = (
+            let e : (low + 1) / 2 ≡ low / 2 = omega arith in
+            ap (λ (x : ℕ). row f x (high / 2)) e ∙ sym (halved n f over low high one (omega arith) top el eh)) in
+            ap (lesserOf (lesserOf a b)) up ∙ lesser-assoc a b (row f low high) ∙ ap (lesserOf a) (last-in f low high lt) ∙ first-in f low high lt)
+        | inr oh ↦ (
+            let up : row f ((low + 1) / 2) (high / 2) ≡ row f low (high - 1) = (
+            let e : (low + 1) / 2 ≡ low / 2 = omega arith in
+            let h : high / 2 ≡ (high - 1) / 2 = omega arith in
+            ap (λ (x : ℕ). row f x (high / 2)) e ∙ ap (row f (low / 2)) h
+            ∙ sym (halved n f over low (high - 1) one (omega arith) (omega arith) el (omega arith))) in
+            ap (lesserOf (lesserOf a b)) up
+            ∙ ap (λ (x : Option ℕ). lesserOf x (row f low (high - 1))) (lesser-comm a b)
+            ∙ lesser-assoc b a (row f low (high - 1))
+            ∙ elim (cases-lt low (high - 1)) [
+              | inl l ↦ ap (lesserOf b) (first-in f low (high - 1) l) ∙ lesser-comm b (row f low (high - 1)) ∙ sym (row-last f low high lt)
+              | inr l ↦ (
+                  let e : low ≡ high - 1 = omega arith in
+                  sym (lesser-assoc b a (row f low (high - 1)))
+                  ∙ ap (λ (x : ℕ). lesserOf (lesserOf b (f x)) (row f low (high - 1))) e
+                  ∙ ap (λ (x : Option ℕ). lesserOf x (row f low (high - 1))) (lesser-same b)
+                  ∙ lesser-comm b (row f low (high - 1))
+                  ∙ sym (row-last f low high lt))
+            ])
+      ]
+      | inr ol ↦ elim (parity high) [
+        | inl eh ↦ (
+            let up : row f ((low + 1) / 2) (high / 2) ≡ row f (low + 1) high = sym (halved n f over (low + 1) high (omega arith) (omega arith) top (omega arith) eh) in
+            ap (lesserOf (lesserOf a b)) up
+            ∙ elim (cases-lt (low + 1) high) [
+              | inl l ↦ lesser-assoc a b (row f (low + 1) high) ∙ ap (lesserOf a) (last-in f (low + 1) high l) ∙ sym (row-first f low high lt)
+              | inr l ↦ (
+                  let e : high - 1 ≡ low = omega arith in
+                  ap (λ (x : ℕ). lesserOf (lesserOf a (f x)) (row f (low + 1) high)) e
+                  ∙ ap (λ (x : Option ℕ). lesserOf x (row f (low + 1) high)) (lesser-same a)
+                  ∙ sym (row-first f low high lt))
+            ])
+        | inr oh ↦ (
+            let up : row f ((low + 1) / 2) (high / 2) ≡ row f (low + 1) (high - 1) = (
+            let h : high / 2 ≡ (high - 1) / 2 = omega arith in
+            ap (row f ((low + 1) / 2)) h
+            ∙ sym (halved n f over (low + 1) (high - 1) (omega arith) (omega arith) (omega arith) (omega arith) (omega arith))) in
+            ap (lesserOf (lesserOf a b)) up
+            ∙ lesser-assoc a b (row f (low + 1) (high - 1))
+            ∙ ap (lesserOf a) (lesser-comm b (row f (low + 1) (high - 1)) ∙ sym (row-last f (low + 1) high (omega arith)))
+            ∙ sym (row-first f low high lt))
+      ]
+    ]
+  where
+    parity : (k : ℕ) → (k % 2 ≡ 0) ⊎ (k % 2 ≡ 1)
+    parity k = elim (cases-eq (k % 2) 0) [ inl e ↦ inl e | inr ne ↦ inr (omega arith) ]
+
+-- the ends are taken into the best so far, and the row above is left
+pub climb : (n : ℕ) (f : ℕ → Option ℕ) → Over n f → (best : Option ℕ) (low high : ℕ) → 1 ≤ low → low < high → high ≤ 2 * n
+    → lesserOf (lesserOf best (lesserOf (f low) (f (high - 1)))) (row f ((low + 1) / 2) (high / 2)) ≡ lesserOf best (row f low high)
+climb n f over best low high one lt top =
+    lesser-assoc best (lesserOf (f low) (f (high - 1))) (row f ((low + 1) / 2) (high / 2)) ∙ ap (lesserOf best) (climbed n f over low high one lt top)
 
 -- the row of the places, as a row of nodes
 pub shifted : (n : ℕ) (nodes : List (Option ℕ)) (from many : ℕ) → leastIn (λ p. getD (drop n nodes) p None) from many ≡ leastIn (under nodes) (n + from) many

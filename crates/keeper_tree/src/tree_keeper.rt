@@ -106,16 +106,9 @@ pub impl Keeper for Tree as TreeKeeper {
         let mut high = n + n.min(last as usize + 1);
         let mut best = None;
         while low < high {
-            if low % 2 == 1 {
-                best = lesser(best, self.nodes[low]);
-                low += 1;
-            } else if high % 2 == 1 {
-                high -= 1;
-                best = lesser(best, self.nodes[high]);
-            } else {
-                low /= 2;
-                high /= 2;
-            }
+            best = lesser(best, lesser(self.nodes[low], self.nodes[high - 1]));
+            low = (low + 1) / 2;
+            high /= 2;
         }
         best
     }
