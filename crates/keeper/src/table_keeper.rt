@@ -26,8 +26,8 @@ pub impl Keeper for Table as TableKeeper {
     }
 
     fn clear(&mut self) {
-        for p in 0..self.delays.len() {
-            self.delays[p] = None;
+        for place in 0..self.delays.len() {
+            self.delays[place] = None;
         }
     }
 

@@ -46,8 +46,8 @@ pub impl Shelf for Marks as MarksShelf {
     }
 
     fn clear(&mut self) {
-        for i in 0..self.marks.len() {
-            self.marks[i] = None;
+        for item in 0..self.marks.len() {
+            self.marks[item] = None;
         }
         self.puts = 0;
     }

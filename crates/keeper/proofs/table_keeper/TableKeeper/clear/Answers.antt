@@ -10,5 +10,5 @@ use Rattle.keeper.proofs.table_keeper.TableKeeper.clear.Needs as need
 pub returns : need.returns
 returns c =
     let n = vec-len (c .args .self .now .delays) in
-    let l : length (vec-items (c .loop-p .self .delays)) ≡ n = search needs in
-    let e = all-none (vec-items (c .loop-p .self .delays)) n l (λ k lt. let below : k < c .loop-p .p = omega arith in c .loop-p .inv .1 k below) in cc
+    let l : length (vec-items (c .loop-place .self .delays)) ≡ n = search needs in
+    let e = all-none (vec-items (c .loop-place .self .delays)) n l (λ k lt. let below : k < c .loop-place .place = omega arith in c .loop-place .inv .1 k below) in cc
