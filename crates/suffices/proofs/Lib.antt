@@ -1,3 +1,4 @@
 pub mod Counting
 pub mod Leaving
 pub mod Passing
+pub mod Returned
