@@ -17,8 +17,8 @@ abbrev pub delayAt : Keeps → ℕ → Option ℕ
 delayAt k p = getD (k .delays) p None
 
 -- so many places, each with none
-abbrev pub blank : ℕ → Keeps
-blank places = record { places = places; delays = replicate places None }
+abbrev pub allNone : ℕ → Keeps
+allNone places = record { places = places; delays = replicate places None }
 
 -- the place p is given a delay or none: where it does not exist, nothing changes
 abbrev pub noted : Keeps → ℕ → Option ℕ → Keeps

@@ -7,11 +7,10 @@ pub mod table_keeper;
 
 ghost use mathlib.Core.Bool.{true, false};
 ghost use mathlib.Core.Path.{_≡_};
-ghost use Prim.Native.Nat.{ℕ};
 ghost use lib.ListN.{length};
 ghost use Rattle.std.specs.Options.{Cases as BySome};
 ghost use Rattle.std.specs.declared.option.Option.the-variants.{Some, None};
-ghost use Rattle.keeper.specs.Keeps.{Keeps, blank, noted, MayLower, NoDelay, LeastFrom};
+ghost use Rattle.keeper.specs.Keeps.{Keeps, allNone, noted, MayLower, NoDelay, LeastFrom};
 
 /// A keeper: so many places, each with a delay or none. Every call may be made with any number; a place that does not exist counts as
 /// none, and no call on it changes anything.
@@ -27,7 +26,7 @@ pub trait Keeper {
 
     /// Sets every place to none.
     fn clear(&mut self)
-        ensures { λ _. ⌜ meaning (now (self .exit)) ≡ blank (meaning (now (self .entry)) .places) ⌝ };
+        ensures { λ _. ⌜ meaning (now (self .exit)) ≡ allNone (meaning (now (self .entry)) .places) ⌝ };
 
     /// Sets the delay `d` at a place that has none or more than `d`, and tells whether it did.
     fn lower(&mut self, place: u32, d: u64) -> bool

@@ -1,6 +1,6 @@
 ghost use mathlib.Core.Path.{_≡_};
 ghost use Rattle.std.specs.Vec.{made};
-ghost use Rattle.keeper.specs.Keeps.{blank};
+ghost use Rattle.keeper.specs.Keeps.{allNone};
 ghost use Rattle.keeper.specs.Means.{tableKeeps};
 use super::Keeper;
 use super::lesser::lesser;
@@ -11,7 +11,7 @@ use std::alloc::Global;
 impl Table {
     /// A keeper of so many places, each with none.
     pub fn new(heap: Global, places: u32) -> Result<Table, AllocError>
-        ensures { λ r. ⌜ made r (λ s. tableKeeps s ≡ blank places) ⌝ }
+        ensures { λ r. ⌜ made r (λ s. tableKeeps s ≡ allNone places) ⌝ }
     {
         let delays = vec![in heap; None; places as usize]?;
         Ok(Table { delays })

@@ -1,10 +1,10 @@
 ghost use mathlib.Core.Path.{_≡_};
-ghost use Prim.Native.Nat.{ℕ, _+_, _<_};
+ghost use Prim.Native.Nat.{_+_, _<_};
 ghost use lib.ListN.{drop, replicate};
 ghost use Rattle.std.specs.Of.Vec.{vec-len, vec-items};
 ghost use Rattle.std.specs.Vec.{made};
 ghost use Rattle.std.specs.declared.option.Option.the-variants.{None};
-ghost use Rattle.keeper.specs.Keeps.{blank, delayAt, noted};
+ghost use Rattle.keeper.specs.Keeps.{allNone, delayAt, noted};
 ghost use Rattle.keeper_tree.specs.Means.{treeKeeps};
 ghost use Rattle.keeper_tree.specs.Trees.{Over, OverBut, under};
 use super::tree::Tree;
@@ -41,7 +41,7 @@ fn wipe(nodes: &mut Vec<Option<u64>>)
 impl Tree {
     /// A keeper of so many places, each with none.
     pub fn new(heap: Global, places: u32) -> Result<Tree, AllocError>
-        ensures { λ r. ⌜ made r (λ s. treeKeeps s ≡ blank places) ⌝ }
+        ensures { λ r. ⌜ made r (λ s. treeKeeps s ≡ allNone places) ⌝ }
     {
         let n = places as usize;
         let nodes = vec![in heap; None; n + n]?;

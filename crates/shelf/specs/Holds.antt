@@ -18,12 +18,12 @@ abbrev pub bucketAt : Holds → ℕ → Option ℕ
 bucketAt h i = getD (h .at) i None
 
 -- a shelf of so many items and buckets with every item nowhere and no put done
-abbrev pub blank : ℕ → ℕ → Holds
-blank items buckets = record { items = items; buckets = buckets; at = replicate items None; puts = 0 }
+abbrev pub allNowhere : ℕ → ℕ → Holds
+allNowhere items buckets = record { items = items; buckets = buckets; at = replicate items None; puts = 0 }
 
 -- all items are sent nowhere, and the count begins again
 abbrev pub cleared : Holds → Holds
-cleared h = blank (h .items) (h .buckets)
+cleared h = allNowhere (h .items) (h .buckets)
 
 -- the item i is sent nowhere: where it does not exist or is nowhere already, nothing changes
 abbrev pub lifted : Holds → ℕ → Holds

@@ -1,6 +1,6 @@
 ghost use mathlib.Core.Path.{_≡_};
 ghost use Rattle.std.specs.Vec.{made};
-ghost use Rattle.shelf.specs.Holds.{blank};
+ghost use Rattle.shelf.specs.Holds.{allNowhere};
 ghost use Rattle.shelf.specs.Means.{marksHold};
 use super::Shelf;
 use super::marks::Marks;
@@ -10,7 +10,7 @@ use std::alloc::Global;
 impl Marks {
     /// A shelf of so many items and buckets, with every item nowhere and no put done.
     pub fn new(heap: Global, items: u32, buckets: u32) -> Result<Marks, AllocError>
-        ensures { λ r. ⌜ made r (λ s. marksHold s ≡ blank items buckets) ⌝ }
+        ensures { λ r. ⌜ made r (λ s. marksHold s ≡ allNowhere items buckets) ⌝ }
     {
         let marks = vec![in heap; None; items as usize]?;
         Ok(Marks {

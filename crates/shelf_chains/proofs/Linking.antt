@@ -1,11 +1,11 @@
 -- The rings as they stand in lists: a list of homes, of next nodes and of previous ones.
 use native.Mathlib.Omega.{arith}
-use mathlib.Core.Path.{_≡_, refl, sym, ap, _∙_, subst}
-use mathlib.Core.Logic.{_⊎_, inl, inr, _≢_, ∥∥₁-elim}
+use mathlib.Core.Path.{_≡_, refl, sym, ap, _∙_}
+use mathlib.Core.Logic.{inl, inr, _≢_, ∥∥₁-elim}
 use mathlib.Core.HLevel.{⊥-prop}
 use mathlib.Core.List.{List}
-use mathlib.Core.Bool.{Bool, true, false, cond}
-use Prim.Native.Nat.{ℕ, zero, suc, _+_, _-_, _<_, _≤_}
+use mathlib.Core.Bool.{cond}
+use Prim.Native.Nat.{ℕ, _+_, _-_, _<_, _≤_}
 use lib.Dec.{ltb}
 use lib.ListN.{length, getD, set, length-set}
 use lib.Seq.{getD-set-same, getD-set-other}
@@ -13,7 +13,7 @@ use borrow.Author.Tests.{lt-ltb, le-ltb}
 use Rattle.std.proofs.shelf.Tests.{cases-lt, cases-eq}
 use Rattle.std.specs.declared.option.Option.{Option}
 use Rattle.std.specs.declared.option.Option.the-variants.{Some, None}
-use Rattle.shelf_chains.specs.Rings.{seatOf, Steps, Ranked, Ringed, to}
+use Rattle.shelf_chains.specs.Rings.{seatOf, Steps, Ringed, to}
 use Rattle.shelf_chains.proofs.Rings.{Set, Two, steps-unlink, steps-link, not-itself, ranked-unlink, ranked-link, bare}
 use Rattle.shelf.proofs.Seats.{listed}
 

@@ -3,7 +3,7 @@ ghost use Prim.Native.Nat.{ℕ, _+_, _<_};
 ghost use lib.ListN.{getD};
 ghost use Rattle.std.specs.Of.Vec.{vec-len, vec-items};
 ghost use Rattle.std.specs.Vec.{made};
-ghost use Rattle.shelf.specs.Holds.{blank, bucketAt, lifted};
+ghost use Rattle.shelf.specs.Holds.{allNowhere, bucketAt, lifted};
 ghost use Rattle.shelf_chains.specs.Means.{chainsHold};
 use super::chains::Chains;
 use shelf::Shelf;
@@ -24,7 +24,7 @@ fn alone(heap: Global, nodes: usize) -> Result<Vec<usize>, AllocError>
 impl Chains {
     /// A shelf of so many items and buckets, with every item nowhere and no put done.
     pub fn new(heap: Global, items: u32, buckets: u32) -> Result<Chains, AllocError>
-        ensures { λ r. ⌜ made r (λ s. chainsHold s ≡ blank items buckets) ⌝ }
+        ensures { λ r. ⌜ made r (λ s. chainsHold s ≡ allNowhere items buckets) ⌝ }
     {
         let nodes = items as usize + buckets as usize;
         let home = vec![in heap; None; items as usize]?;

@@ -4,7 +4,7 @@ use mathlib.Core.List.{List, [], _∷_, _++_, reverse}
 use Prim.Native.Nat.{ℕ, _+_, _<_}
 use lib.ListN.{length, getD, set, take}
 use Rattle.std.proofs.shelf.Lists.{take-more, take-more-set, reverse-append}
-use Rattle.stack.specs.Stacked.{upward, downward, Pushed, Popped}
+use Rattle.stack.specs.Stacked.{downward, Pushed, Popped}
 
 -- what stands at the end of a list stands at the front of the reversed one
 pub turned : {A : Type 0} (l m : List A) (x : A) → m ≡ l ++ (x ∷ []) → reverse m ≡ x ∷ reverse l

@@ -1,21 +1,21 @@
 -- The least of the delays that a keeper was given, once one place was retired.
 use native.Mathlib.Omega.{arith}
 use mathlib.Core.Path.{_≡_, sym, ap, _∙_}
-use mathlib.Core.Logic.{_⊎_, inl, inr, _≢_}
+use mathlib.Core.Logic.{inl, inr, _≢_}
 use mathlib.Core.List.{List}
 use Prim.Native.Nat.{ℕ, _<_, _≤_}
-use lib.ListN.{length, getD, set}
+use lib.ListN.{getD}
 use lib.Seq.{getD-set-other}
 use Rattle.std.proofs.shelf.Tests.{cases-eq, cases-lt}
 use Rattle.std.specs.Options.{Cases}
 use Rattle.std.specs.declared.option.Option.{Option}
 use Rattle.std.specs.declared.option.Option.the-variants.{Some, None}
-use Rattle.keeper.specs.Keeps.{Keeps, delayAt, blank, noted, NoDelay, LeastFrom}
+use Rattle.keeper.specs.Keeps.{Keeps, delayAt, allNone, noted, NoDelay, LeastFrom}
 use Rattle.keeper.proofs.Leasts.{none-blank}
 use Rattle.shelf.proofs.Seats.{none-at}
 use Rattle.suffices.specs.Others.{LeastBut}
 
-pub no-delay : (k : Keeps) (n : ℕ) → k ≡ blank n → (p : ℕ) → delayAt k p ≡ None
+pub no-delay : (k : Keeps) (n : ℕ) → k ≡ allNone n → (p : ℕ) → delayAt k p ≡ None
 no-delay k n e p = ap (λ (x : Keeps). delayAt x p) e ∙ none-blank n p
 
 module _ (k k′ : Keeps) (delays : List ℕ) (n out : ℕ) (few : n ≤ 4294967295) (e : k′ ≡ noted k out None)

@@ -6,7 +6,7 @@ use lib.Dec.{eqb}
 use lib.ListN.{length, getD}
 use Rattle.std.specs.declared.option.Option.{Option}
 use Rattle.std.specs.declared.option.Option.the-variants.{Some, None}
-use Rattle.shelf.specs.Holds.{Holds, bucketAt}
+use Rattle.shelf.specs.Holds.{Holds}
 
 -- how often x occurs in a list; two lists in which every x occurs equally often are the same but for the order
 abbrev pub times : ℕ → List ℕ → ℕ

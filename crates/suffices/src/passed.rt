@@ -1,6 +1,6 @@
 ghost use mathlib.Core.Bool.{true, false};
 ghost use mathlib.Core.Path.{_≡_};
-ghost use Prim.Native.Nat.{ℕ, _+_};
+ghost use Prim.Native.Nat.{ℕ};
 ghost use Rattle.std.specs.Of.Vec.{vec-len, vec-items};
 ghost use Rattle.shelf.specs.Holds.{Bare, bucketAt};
 ghost use Rattle.suffices.specs.Passed.{times, counts, countIn, MayPass};

@@ -1,11 +1,10 @@
 use borrow.Author.Needs.{needs}
 use native.Mathlib.Omega.{arith}
-use mathlib.Core.Path.{_≡_, ap, _∙_}
-use Prim.Native.Nat.{ℕ, _+_, _*_, _<_}
+use mathlib.Core.Path.{_≡_, _∙_}
+use Prim.Native.Nat.{_+_, _*_, _<_}
 use lib.ListN.{length}
 use Rattle.std.proofs.shelf.Lists.{getD-read, drop-set-lt}
-use Rattle.std.specs.Of.Vec.{vec-len, vec-items}
-use Rattle.std.specs.declared.option.Option.{Option}
+use Rattle.std.specs.Of.Vec.{vec-items}
 use Rattle.std.specs.declared.option.Option.the-variants.{None}
 use Rattle.keeper.specs.Lesser.{lesserOf}
 use Rattle.keeper_tree.specs.Trees.{under}

@@ -1,4 +1,4 @@
-use mathlib.Core.Path.{_≡_, refl}
+use mathlib.Core.Path.{refl}
 use native.Mathlib.Omega.{arith}
 use Rattle.suffices.proofs.Leaving.{no-delay}
 use Rattle.suffices.proofs.others.fill.Needs as need

@@ -1,4 +1,4 @@
-use mathlib.Core.Path.{_≡_, sym, subst}
+use mathlib.Core.Path.{_≡_, subst}
 use Prim.Native.Nat.{ℕ, _<_}
 use Rattle.std.specs.Of.Vec.{vec-items}
 use Rattle.std.specs.Options.{Cases}

@@ -1,10 +1,10 @@
 use borrow.Author.Needs.{needs}
 use native.Mathlib.Omega.{arith}
 use mathlib.Core.Path.{_≡_, refl}
-use Prim.Native.Nat.{ℕ, _+_, _<_, _≤_}
+use Prim.Native.Nat.{_<_, _≤_}
 use lib.ListN.{length}
 use Rattle.std.specs.Of.Vec.{vec-len, vec-items}
-use Rattle.suffices.proofs.Passing.{Taking, one-take, not-bare, all-taken, all-back}
+use Rattle.suffices.proofs.Passing.{one-take, not-bare, all-taken, all-back}
 use Rattle.suffices.proofs.passed.take_all.Needs as need
 
 pub loop-k-holds : need.loop-k-holds

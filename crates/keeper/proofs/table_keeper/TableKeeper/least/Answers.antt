@@ -1,13 +1,12 @@
 use borrow.Author.Needs.{needs}
-use native.Mathlib.Omega.{arith}
 use mathlib.Core.Path.{_≡_, sym, ap, _∙_}
 use Prim.Native.Nat.{ℕ, _+_, _-_, _<_}
-use lib.ListN.{length, getD}
+use lib.ListN.{length}
 use Rattle.std.proofs.shelf.Lists.{getD-read}
 use Rattle.std.specs.Of.Vec.{vec-items}
 use Rattle.std.specs.declared.option.Option.{Option}
 use Rattle.std.specs.declared.option.Option.the-variants.{None}
-use Rattle.keeper.specs.Keeps.{Keeps, delayAt}
+use Rattle.keeper.specs.Keeps.{delayAt}
 use Rattle.keeper.specs.Lesser.{lesserOf, leastIn}
 use Rattle.keeper.specs.Means.{tableKeeps}
 use Rattle.keeper.proofs.Leasts.{span, take-first, all-taken, least-answers}

@@ -1,8 +1,8 @@
 use borrow.Author.Needs.{needs}
 use mathlib.Core.Path.{_≡_, refl}
 use Prim.Native.Nat.{_+_}
-use lib.ListN.{replicate, drop}
-use Rattle.std.specs.Of.Vec.{vec-len, vec-items}
+use lib.ListN.{replicate}
+use Rattle.std.specs.Of.Vec.{vec-items}
 use Rattle.std.specs.declared.option.Option.the-variants.{None}
 use Rattle.keeper_tree.proofs.Climbs.{over-blank, places-blank}
 use Rattle.keeper_tree.proofs.tree.Tree.new.Needs as need

@@ -1,5 +1,3 @@
-use borrow.Author.Needs.{needs}
-use native.Mathlib.Omega.{arith}
 use mathlib.Core.Path.{_∙_}
 use Rattle.std.specs.Of.Vec.{vec-len, vec-items}
 use Rattle.keeper_tree.proofs.Climbs.{over-blank, places-blank}

@@ -1,6 +1,6 @@
 use native.Mathlib.Omega.{arith}
-use mathlib.Core.Path.{refl, ap}
-use Prim.Native.Nat.{ℕ, _+_}
+use mathlib.Core.Path.{refl}
+use Prim.Native.Nat.{_+_}
 use Rattle.shelf_chains.proofs.Held.{bare-ring, first-of-ring}
 use Rattle.shelf_chains.proofs.chains_shelf.ChainsShelf.take.Needs as need
 
