@@ -6,7 +6,8 @@ ghost use Rattle.std.specs.declared.option.Option.the-variants.{Some, None};
 ghost use Rattle.shelf_chains.specs.Rings.{Ringed};
 
 /// A shelf of chains: the items of a bucket stand in a ring that goes through the bucket, so that each call but clear takes a constant
-/// time. The nodes of the rings are the items and after them the buckets.
+/// time. The nodes of the rings are the items and after them the buckets; `next` and `prev` have a node for each. Of the ranks that
+/// fall along the rings nothing is kept but that there are some.
 #[derive(Drop)]
 pub struct Chains {
     pub(crate) home: Vec<Option<u32>>,
