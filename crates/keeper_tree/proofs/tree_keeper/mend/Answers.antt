@@ -24,6 +24,6 @@ loop-k-again c =
     let is : c .lesser .result ≡ lesserOf (under nodes (2 * k)) (under nodes (2 * k + 1)) = cc in (
       c .loop-k .inv .0,
       omega (arith, c .loop-k .inv .1),
-      mend-climbs (c .args .n) nodes k (c .lesser .result) (c .loop-k-test .taken) low is (c .loop-k .inv .2),
+      mend-climbs (c .args .n) nodes k (c .lesser .result) (omega arith) low is (c .loop-k .inv .2),
       drop-set-lt (c .args .n) nodes k (c .lesser .result) (c .loop-k .inv .1) ∙ c .loop-k .inv .3,
     )
