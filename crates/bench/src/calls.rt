@@ -3,7 +3,7 @@ use keeper::Keeper;
 use shelf::Shelf;
 
 /// Makes random calls on a shelf, and answers a number that depends on every answer.
-pub fn drive_shelf<S: Shelf>(shelf: &mut S, many: u32, random: &mut Random) -> u32 {
+pub(crate) fn drive_shelf<S: Shelf>(shelf: &mut S, many: u32, random: &mut Random) -> u32 {
     let items = shelf.items();
     let buckets = shelf.buckets();
     let mut seen = 0u32;
@@ -24,7 +24,7 @@ pub fn drive_shelf<S: Shelf>(shelf: &mut S, many: u32, random: &mut Random) -> u
 }
 
 /// Lowers and retires places of a keeper at random.
-pub fn drive_keeper<K: Keeper>(keeper: &mut K, many: u32, random: &mut Random) -> u32 {
+pub(crate) fn drive_keeper<K: Keeper>(keeper: &mut K, many: u32, random: &mut Random) -> u32 {
     let places = keeper.places();
     let mut seen = 0u32;
     for _ in 0..many {
@@ -40,7 +40,7 @@ pub fn drive_keeper<K: Keeper>(keeper: &mut K, many: u32, random: &mut Random) -
 }
 
 /// Asks a keeper for leasts over random runs of places.
-pub fn ask_keeper<K: Keeper>(keeper: &K, many: u32, random: &mut Random) -> u64 {
+pub(crate) fn ask_keeper<K: Keeper>(keeper: &K, many: u32, random: &mut Random) -> u64 {
     let places = keeper.places();
     let mut seen = 0u64;
     for _ in 0..many {

@@ -115,7 +115,7 @@ fn print_keepers(rt: &LibcRuntime, places: u32, many: u32) -> io::Result<()> {
 }
 
 /// Compares shelves and keepers of several sizes, and lets the count of puts reach its end once.
-pub fn print_all(rt: &LibcRuntime) -> io::Result<()> {
+pub(crate) fn print_all(rt: &LibcRuntime) -> io::Result<()> {
     print_shelves(rt, 1, 1, 1000, 50)?;
     print_shelves(rt, 10, 3, 10000, 500)?;
     print_shelves(rt, 100, 40, 10000, 500)?;

@@ -7,12 +7,12 @@ pub struct Random {
 }
 
 impl Random {
-    pub fn new(seed: u64) -> Random {
+    pub(crate) fn new(seed: u64) -> Random {
         Random { state: seed }
     }
 
     /// A number below `n`, or 0 where there is none.
-    pub fn below(&mut self, n: u32) -> u32
+    pub(crate) fn below(&mut self, n: u32) -> u32
         ensures { λ r. ⌜ (0 < n → r < n) ⌝ }
     {
         if n == 0 {

@@ -62,7 +62,7 @@ fn print_keepers(rt: &LibcRuntime, places: u32) -> io::Result<()> {
 }
 
 /// Times every shelf and every keeper at several sizes.
-pub fn print_all(rt: &LibcRuntime) -> io::Result<()> {
+pub(crate) fn print_all(rt: &LibcRuntime) -> io::Result<()> {
     print_shelves(rt, 64)?;
     print_shelves(rt, 1024)?;
     print_shelves(rt, 16384)?;

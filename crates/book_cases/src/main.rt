@@ -3,10 +3,14 @@
 use book::book::Book;
 use book::permit::Permit;
 use book::refusal::PermitRefusal;
-use book::refusal::Refusal;
 use network::row::Row;
 use std::alloc::Global;
 use std::error::AnyError;
+
+/// A row.
+fn row(from: u32, to: u32, ns: u32) -> Row {
+    Row { from, to, ns }
+}
 
 /// Gives a permit back at home, or annuls it where that is refused.
 fn end_permit(home: &mut Book, permit: Permit) {
@@ -123,13 +127,9 @@ fn struck(book: &mut Book, link: u32) -> u8 {
 /// Openings at and past the limits.
 fn openings(rt: &LibcRuntime, place: &mut Book) -> Result<(), AnyError> {
     let heap = rt.alloc();
-    let row = Row {
-        from: 0,
-        to: 1,
-        ns: 3,
-    };
-    let most = vec![in heap; row; 2048]?;
-    let many = vec![in heap; row; 2049]?;
+    let link = row(0, 1, 3);
+    let most = vec![in heap; link; 2048]?;
+    let many = vec![in heap; link; 2049]?;
     let none = opened(place, heap, 1, 0, most.as_slice());
     let above = opened(place, heap, 1, 513, most.as_slice());
     let rows = opened(place, heap, 1, 512, many.as_slice());
@@ -144,46 +144,9 @@ fn openings(rt: &LibcRuntime, place: &mut Book) -> Result<(), AnyError> {
 /// Rows that describe no link.
 fn bad_rows(rt: &LibcRuntime, place: &mut Book) -> Result<(), AnyError> {
     let heap = rt.alloc();
-    let outside = opened(
-        place,
-        heap,
-        1,
-        5,
-        &[Row {
-            from: 0,
-            to: 5,
-            ns: 0,
-        }],
-    );
-    let equal = opened(
-        place,
-        heap,
-        1,
-        5,
-        &[Row {
-            from: 2,
-            to: 2,
-            ns: 0,
-        }],
-    );
-    let timeless = opened(
-        place,
-        heap,
-        1,
-        5,
-        &[
-            Row {
-                from: 0,
-                to: 1,
-                ns: 3,
-            },
-            Row {
-                from: 0,
-                to: 1,
-                ns: 0,
-            },
-        ],
-    );
+    let outside = opened(place, heap, 1, 5, &[row(0, 5, 0)]);
+    let equal = opened(place, heap, 1, 5, &[row(2, 2, 0)]);
+    let timeless = opened(place, heap, 1, 5, &[row(0, 1, 3), row(0, 1, 0)]);
     println!(rt, "an end that is no station: {outside}")?;
     println!(rt, "equal ends: {equal}")?;
     println!(rt, "no delay: {timeless}")?;
@@ -229,18 +192,7 @@ fn permits(
 fn main(rt: LibcRuntime) -> Result<(), AnyError> {
     let mut place = Book::new(rt.alloc())?;
     let mut other = Book::new(rt.alloc())?;
-    let rows = [
-        Row {
-            from: 0,
-            to: 1,
-            ns: 3,
-        },
-        Row {
-            from: 1,
-            to: 2,
-            ns: 4,
-        },
-    ];
+    let rows = [row(0, 1, 3), row(1, 2, 4)];
     openings(&rt, &mut place)?;
     bad_rows(&rt, &mut place)?;
     permits(&rt, &mut place, &mut other, &rows)

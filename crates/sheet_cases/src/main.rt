@@ -8,12 +8,13 @@ use word::state::State;
 
 /// Reads one sheet into memory for so many links, and prints what came of it.
 fn show(rt: &LibcRuntime, name: &str, sheet: &[u8], room: usize) -> Result<(), AnyError> {
+    let row = Row {
+        from: 0,
+        to: 0,
+        ns: 0,
+    };
     let blank = SheetLink {
-        row: Row {
-            from: 0,
-            to: 0,
-            ns: 0,
-        },
+        row,
         state: State::In,
     };
     let mut links = vec![in rt.alloc(); blank; room]?;
@@ -42,107 +43,35 @@ fn show(rt: &LibcRuntime, name: &str, sheet: &[u8], room: usize) -> Result<(), A
     Ok(())
 }
 
+/// The same of a sheet of five stations with these lines of links.
+fn links(rt: &LibcRuntime, name: &str, lines: &[u8], room: usize) -> Result<(), AnyError> {
+    let mut sheet = Vec::new(rt.alloc());
+    sheet.extend_from_slice(b"book;stations\n7;5\n\nfrom;to;ns;state\n")?;
+    sheet.extend_from_slice(lines)?;
+    show(rt, name, sheet.as_slice(), room)
+}
+
 fn words(rt: &LibcRuntime) -> Result<(), AnyError> {
-    show(
-        rt,
-        "an empty word for a number",
-        b"book;stations\n7;5\n\nfrom;to;ns;state\n0;;3;in\n",
-        4,
-    )?;
-    show(
-        rt,
-        "no digit",
-        b"book;stations\n7;5\n\nfrom;to;ns;state\n0;x;3;in\n",
-        4,
-    )?;
-    show(
-        rt,
-        "a leading zero",
-        b"book;stations\n7;5\n\nfrom;to;ns;state\n0;1;3;in\n1;2;04;in\n",
-        4,
-    )?;
-    show(
-        rt,
-        "twenty digits",
-        b"book;stations\n7;5\n\nfrom;to;ns;state\n0;1;18446744073709551616;in\n",
-        4,
-    )?;
-    show(
-        rt,
-        "digits and then a letter",
-        b"book;stations\n7;5\n\nfrom;to;ns;state\n0;1;99999999999x;in\n",
-        4,
-    )?;
-    show(
-        rt,
-        "the largest number",
-        b"book;stations\n7;5\n\nfrom;to;ns;state\n0;1;4294967295;in\n",
-        4,
-    )?;
-    show(
-        rt,
-        "one more than that",
-        b"book;stations\n7;5\n\nfrom;to;ns;state\n0;1;4294967296;in\n",
-        4,
-    )?;
-    show(
-        rt,
-        "a point",
-        b"book;stations\n7;5\n\nfrom;to;ns;state\n0;1;2.5;in\n",
-        4,
-    )?;
-    show(
-        rt,
-        "a byte above 127",
-        b"book;stations\n7;5\n\nfrom;to;ns;state\n0;\xb9;3;in\n",
-        4,
-    )?;
-    show(
-        rt,
-        "a carriage return at the end",
-        b"book;stations\n7;5\n\nfrom;to;ns;state\n0;1;3;in\r\n",
-        4,
-    )?;
-    show(
-        rt,
-        "a bad state",
-        b"book;stations\n7;5\n\nfrom;to;ns;state\n0;1;3;IN\n",
-        4,
-    )?;
-    show(
-        rt,
-        "an empty state",
-        b"book;stations\n7;5\n\nfrom;to;ns;state\n0;1;3;\n",
-        4,
-    )?;
-    show(
-        rt,
-        "the left word first",
-        b"book;stations\n7;5\n\nfrom;to;ns;state\nx;y;z;w\n",
-        4,
-    )?;
+    links(rt, "an empty word for a number", b"0;;3;in\n", 4)?;
+    links(rt, "no digit", b"0;x;3;in\n", 4)?;
+    links(rt, "a leading zero", b"0;1;3;in\n1;2;04;in\n", 4)?;
+    links(rt, "twenty digits", b"0;1;18446744073709551616;in\n", 4)?;
+    links(rt, "digits and then a letter", b"0;1;99999999999x;in\n", 4)?;
+    links(rt, "the largest number", b"0;1;4294967295;in\n", 4)?;
+    links(rt, "one more than that", b"0;1;4294967296;in\n", 4)?;
+    links(rt, "a point", b"0;1;2.5;in\n", 4)?;
+    links(rt, "a byte above 127", b"0;\xb9;3;in\n", 4)?;
+    links(rt, "a carriage return at the end", b"0;1;3;in\r\n", 4)?;
+    links(rt, "a bad state", b"0;1;3;IN\n", 4)?;
+    links(rt, "an empty state", b"0;1;3;\n", 4)?;
+    links(rt, "the left word first", b"x;y;z;w\n", 4)?;
     Ok(())
 }
 
 fn lines(rt: &LibcRuntime) -> Result<(), AnyError> {
-    show(
-        rt,
-        "too few words",
-        b"book;stations\n7;5\n\nfrom;to;ns;state\n0;1;3\n",
-        4,
-    )?;
-    show(
-        rt,
-        "too many words",
-        b"book;stations\n7;5\n\nfrom;to;ns;state\n0;1;3;in;9\n",
-        4,
-    )?;
-    show(
-        rt,
-        "a last empty word too many",
-        b"book;stations\n7;5\n\nfrom;to;ns;state\n0;1;3;in;\n",
-        4,
-    )?;
+    links(rt, "too few words", b"0;1;3\n", 4)?;
+    links(rt, "too many words", b"0;1;3;in;9\n", 4)?;
+    links(rt, "a last empty word too many", b"0;1;3;in;\n", 4)?;
     show(
         rt,
         "names in another order",
@@ -159,10 +88,10 @@ fn lines(rt: &LibcRuntime) -> Result<(), AnyError> {
     show(rt, "an empty name", b"book;\n7;5\n", 4)?;
     show(rt, "too few names", b"book\n7;5\n", 4)?;
     show(rt, "too many names", b"book;stations;more\n7;5\n", 4)?;
-    show(
+    links(
         rt,
         "names again where values are due",
-        b"book;stations\n7;5\n\nfrom;to;ns;state\nfrom;to;ns;state\n",
+        b"from;to;ns;state\n",
         4,
     )?;
     Ok(())
@@ -193,46 +122,26 @@ fn tables(rt: &LibcRuntime) -> Result<(), AnyError> {
         b"book;stations\n7;5\n\n\nfrom;to;ns;state\n",
         4,
     )?;
-    show(
-        rt,
-        "no link",
-        b"book;stations\n7;5\n\nfrom;to;ns;state\n",
-        4,
-    )?;
+    links(rt, "no link", b"", 4)?;
     show(
         rt,
         "no link and no last line feed",
         b"book;stations\n7;5\n\nfrom;to;ns;state",
         4,
     )?;
-    show(
-        rt,
-        "no last line feed",
-        b"book;stations\n7;5\n\nfrom;to;ns;state\n0;1;3;in",
-        4,
-    )?;
-    show(
-        rt,
-        "an empty line among the links",
-        b"book;stations\n7;5\n\nfrom;to;ns;state\n0;1;3;in\n\n",
-        4,
-    )?;
-    show(
-        rt,
-        "more links than memory",
-        b"book;stations\n7;5\n\nfrom;to;ns;state\n0;1;3;in\n1;2;4;in\n",
-        1,
-    )?;
-    show(
+    links(rt, "no last line feed", b"0;1;3;in", 4)?;
+    links(rt, "an empty line among the links", b"0;1;3;in\n\n", 4)?;
+    links(rt, "more links than memory", b"0;1;3;in\n1;2;4;in\n", 1)?;
+    links(
         rt,
         "an empty line where the memory is full",
-        b"book;stations\n7;5\n\nfrom;to;ns;state\n0;1;3;in\n\n",
+        b"0;1;3;in\n\n",
         1,
     )?;
-    show(
+    links(
         rt,
         "one link too many, and too many words",
-        b"book;stations\n7;5\n\nfrom;to;ns;state\n0;1;3;in\n1;2;4;in;9\n",
+        b"0;1;3;in\n1;2;4;in;9\n",
         1,
     )?;
     Ok(())
@@ -257,36 +166,16 @@ fn books(rt: &LibcRuntime) -> Result<(), AnyError> {
         b"book;stations\n4294967295;512\n\nfrom;to;ns;state\n0;511;4294967295;off\n",
         4,
     )?;
-    show(
-        rt,
-        "both ends no stations",
-        b"book;stations\n7;5\n\nfrom;to;ns;state\n9;5;3;in\n",
-        4,
-    )?;
+    links(rt, "both ends no stations", b"9;5;3;in\n", 4)?;
     show(
         rt,
         "the left end of two",
         b"book;stations\n7;5\n\nto;from;ns;state\n9;5;3;in\n",
         4,
     )?;
-    show(
-        rt,
-        "the second end",
-        b"book;stations\n7;5\n\nfrom;to;ns;state\n0;5;3;in\n",
-        4,
-    )?;
-    show(
-        rt,
-        "equal ends",
-        b"book;stations\n7;5\n\nfrom;to;ns;state\n0;1;3;in\n2;2;0;off\n",
-        4,
-    )?;
-    show(
-        rt,
-        "no delay",
-        b"book;stations\n7;5\n\nfrom;to;ns;state\n0;1;0;in\n",
-        4,
-    )?;
+    links(rt, "the second end", b"0;5;3;in\n", 4)?;
+    links(rt, "equal ends", b"0;1;3;in\n2;2;0;off\n", 4)?;
+    links(rt, "no delay", b"0;1;0;in\n", 4)?;
     show(
         rt,
         "a line at fault comes first",
