@@ -1,3 +1,5 @@
+pub mod Joins
 pub mod Naming
+pub mod One
 pub mod Pieces
 pub mod Rowing

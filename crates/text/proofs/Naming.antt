@@ -160,7 +160,7 @@ module _ {t : Table} {ws : List (List ℕ)} {j i : ℕ} {places : List ℕ} (see
 
 pub seen-all : {t : Table} {ws : List (List ℕ)} {places : List ℕ} → length ws ≡ width t → Seen t ws (width t) places → Ordered t ws places
 seen-all {t} {ws} {places} count seen =
-    record { count = count; placed = λ i h. seen .came i h (known-all places (width t) i (seen .many) h) }
+    record { count = count; once = λ i j l h. seen .good j h .new i l; placed = λ i h. seen .came i h (known-all places (width t) i (seen .many) h) }
 
 -- a word that names no new column is at fault
 pub name-fault : {t : Table} {ws : List (List ℕ)} {j : ℕ} {places : List ℕ} → Seen t ws j places → (cause : Cause) → NoNewName t places (getD ws j []) cause → NameFault t ws j cause

@@ -22,9 +22,10 @@ pub data Faulty (columns : ℕ) (line : List ℕ) (good : ℕ → Type 0) (bad :
   word : (j : ℕ) → length (words line) ≡ columns → j < columns → ((i : ℕ) → i < j → good i) → bad j cause → column ≡ column-of (words line) j
       → Faulty columns line good bad cause column
 
--- the words are the names of the table's columns, in some order: the name i is the word `places i`
+-- the words are the names of the table's columns, in some order and none twice: the name i is the word `places i`
 pub record Ordered (t : Table) (ws : List (List ℕ)) (places : List ℕ) : Type 0 where
   pub count : length ws ≡ width t
+  pub once : (i j : ℕ) → i < j → j < width t → getD ws i [] ≡ getD ws j [] → ⊥
   pub placed : (i : ℕ) → i < width t → (getD places i 0 < width t) × (getD ws (getD places i 0) [] ≡ getD (names t) i [])
 
 -- the word j is a name of the table, and no word before it

@@ -1,5 +1,6 @@
 pub mod Columns
 pub mod Due
+pub mod Laws
 pub mod Lines
 pub mod Opening
 pub mod Read

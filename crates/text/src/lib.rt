@@ -2,6 +2,7 @@
 
 mod due;
 mod heading;
+pub mod laws;
 pub mod line;
 mod names;
 mod opening;

@@ -1,4 +1,5 @@
 pub mod Bytes
 pub mod Faults
+pub mod Laws
 pub mod Numbers
 pub mod States

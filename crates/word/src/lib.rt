@@ -2,5 +2,6 @@
 
 pub mod byte;
 pub mod fault;
+pub mod laws;
 pub mod numeral;
 pub mod state;
