@@ -26,6 +26,7 @@ one-place {t} {ws} {ps} {qs} o p i h = go (decLt (getD ps i 0) (getD qs i 0)) (d
   where
     same : getD ws (getD ps i 0) [] ≡ getD ws (getD qs i 0) []
     same = o .placed i h .1 ∙ sym (p .placed i h .1)
+
     go : Dec (getD ps i 0 < getD qs i 0) → Dec (getD qs i 0 < getD ps i 0) → getD ps i 0 ≡ getD qs i 0
     go (yes l) d = absurd (o .once (getD ps i 0) (getD qs i 0) l (p .placed i h .0) same)
     go (no m) (yes l) = absurd (o .once (getD qs i 0) (getD ps i 0) l (o .placed i h .0) (sym same))
@@ -65,7 +66,8 @@ pub one-sheet : (text : List ℕ) (head head′ : Head) (links links′ : List S
 one-sheet text head head′ links links′ n n′ a b =
     let s = a .spelled in
     let t = b .spelled in
-    let count : n ≡ n′ = omega (arith, s .end, t .end) in
-    (one-head (s .headed .book .names) (t .headed .book .names) (s .headed .book .values) (t .headed .book .values),
-     count,
-     λ k h. one-link (s .headed .names) (t .headed .names) (s .rows .spelled k h) (t .rows .spelled k (omega arith)))
+    let count : n ≡ n′ = omega (arith, s .end, t .end) in (
+      one-head (s .headed .book .names) (t .headed .book .names) (s .headed .book .values) (t .headed .book .values),
+      count,
+      λ k h. one-link (s .headed .names) (t .headed .names) (s .rows .spelled k h) (t .rows .spelled k (omega arith)),
+    )

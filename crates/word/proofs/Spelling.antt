@@ -34,13 +34,13 @@ same-digits (x ∷ xs) (y ∷ ys) (d, ds) (e, es) l v =
     let low = value-lt xs ds in
     let low′ : value ys < 10 ^ length xs = omega (arith, value-lt ys es, place) in
     let both : (x - 48) * 10 ^ length xs + value xs ≡ (y - 48) * 10 ^ length xs + value ys
-          = v ∙ ap (λ (p : ℕ). (y - 48) * p + value ys) place
+    = v ∙ ap (λ (p : ℕ). (y - 48) * p + value ys) place
     in
     let first : x - 48 ≡ y - 48
-          = sym (digits-div (x - 48) {m = 10 ^ length xs} {r = value xs} low) ∙ (ap (λ (n : ℕ). n / 10 ^ length xs) both ∙ digits-div (y - 48) {m = 10 ^ length xs} {r = value ys} low′)
+    = sym (digits-div (x - 48) {m = 10 ^ length xs} {r = value xs} low) ∙ (ap (λ (n : ℕ). n / 10 ^ length xs) both ∙ digits-div (y - 48) {m = 10 ^ length xs} {r = value ys} low′)
     in
     let rest : value xs ≡ value ys
-          = sym (digits-mod (x - 48) {m = 10 ^ length xs} {r = value xs} low) ∙ (ap (λ (n : ℕ). n % 10 ^ length xs) both ∙ digits-mod (y - 48) {m = 10 ^ length xs} {r = value ys} low′)
+    = sym (digits-mod (x - 48) {m = 10 ^ length xs} {r = value xs} low) ∙ (ap (λ (n : ℕ). n % 10 ^ length xs) both ∙ digits-mod (y - 48) {m = 10 ^ length xs} {r = value ys} low′)
     in
     let tail = same-digits xs ys ds es long rest in
     let head : x ≡ y = omega arith in
@@ -52,6 +52,7 @@ no-longer b bs c cs (d, ds, z) (e, es, y) v = go (ℕ-discrete b 48) (decLt (len
   where
     ten : 0 < 10
     ten = omega arith
+
     go : Dec (b ≡ 48) → Dec (length cs < length bs) → length bs ≤ length cs
     go (yes q) r = omega (arith, ap length (z q))
     go (no q) (no r) = omega arith
@@ -67,4 +68,4 @@ one-spelling [] w n m e = absurd n
 one-spelling (b ∷ bs) [] n m e = absurd m
 one-spelling (b ∷ bs) (c ∷ cs) n m e =
     same-digits (b ∷ bs) (c ∷ cs) (n .0, n .1) (m .0, m .1)
-      (omega (arith, no-longer b bs c cs n m e, no-longer c cs b bs m n (sym e))) e
+    (omega (arith, no-longer b bs c cs n m e, no-longer c cs b bs m n (sym e))) e
