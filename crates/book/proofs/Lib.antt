@@ -1,2 +1,3 @@
 pub mod Fresh
+pub mod Histories
 pub mod Soundness

@@ -1,4 +1,5 @@
 pub mod Calls
+pub mod History
 pub mod Matter
 pub mod Refusals
 pub mod Stages

@@ -3,6 +3,7 @@
 pub mod asks;
 pub mod book;
 pub mod changes;
+pub mod laws;
 pub mod opening;
 pub mod permit;
 pub mod refusal;
