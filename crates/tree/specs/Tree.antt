@@ -69,11 +69,11 @@ pub record Near (g : Network) (t : Tree) (x a b : ℕ) : Type 0 where
 pub record Fits (g : Network) (t : Tree) : Type 0 where
   pub proper : Proper g
   pub stations : t .stations ≡ g .stations
-  -- a parent is an inner node, later in number and of a higher level
+  -- a parent is an inner node, later in number and of a higher level; an inner node's level is at least 1
   pub inner : (x p : ℕ) → t .parent x ≡ Some p → Inner t p
   pub later : (x p : ℕ) → t .parent x ≡ Some p → x < p
   pub rising : (x p : ℕ) → t .parent x ≡ Some p → t .level x < t .level p
-  pub high : (x : ℕ) → Inner t x → 1 ≤ t .level x
+  pub positive : (x : ℕ) → Inner t x → 1 ≤ t .level x
   -- the children of a node, each once
   pub child : (x c : ℕ) → Among c (t .children x) → t .parent c ≡ Some x
   pub listed : (x c : ℕ) → t .parent c ≡ Some x → Among c (t .children x)

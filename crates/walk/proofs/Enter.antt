@@ -22,19 +22,17 @@ use Rattle.walk.proofs.Pass.{expanded-up}
 
 -- a visit that goes on, as it begins
 begins : {t : Tree} {count lim : ℕ → ℕ} {c began : ℕ} {f : Frame} {fs gs : List Frame} → lim c ≡ line t count c + width t c
-  → ((p : ℕ) → t .parent c ≡ Some p → coarse t c p (count c) ≡ began) → record { node = c; began = began } ∷ gs ≡ f ∷ fs → Top t count lim f
+    → ((p : ℕ) → t .parent c ≡ Some p → coarse t c p (count c) ≡ began) → record { node = c; began = began } ∷ gs ≡ f ∷ fs → Top t count lim f
 begins {t} {count} {lim} {c} {began} {f} l h e =
     let z : record { node = c; began = began } ≡ f = cc in
     subst (λ (j : Frame). Top t count lim j) z (record { same = λ q. l; risen = λ p q n. absurd (n (h p q)) })
 
 module _ {g : Network} {t : Tree} (fits : Fits g t) {src : ℕ} {s : Core} {fs : List Frame} {lim : ℕ → ℕ} (facts : Facts g t src s fs lim) where
-
   -- c, which waited, is visited again
   module _ {c began : ℕ} {lim′ : ℕ → ℕ} (h′ : Shelf) (off : ¬ On fs c) (limit : lim c ≡ line t (s .count) c) (set : Changed (s .shelf .bucket) c None (h′ .bucket))
       (lift : Changed lim c (line t (s .count) c + width t c) lim′) (under : (p : ℕ) → t .parent c ≡ Some p → line t (s .count) c + width t c ≤ lim p)
       (stack′ : Stack t src (s .base) (s .count) lim′ (record { node = c; began = began } ∷ fs))
       (top′ : (p : ℕ) → t .parent c ≡ Some p → coarse t c p (s .count c) ≡ began) where
-
     lim-up : (y : ℕ) → lim y ≤ lim′ y
     lim-up y = elim (ℕ-discrete y c) [ yes z ↦ omega (arith, limit, lift .at, ap lim z, ap lim′ z) | no z ↦ omega (arith, lift .off y z) ]
 
@@ -47,13 +45,14 @@ module _ {g : Network} {t : Tree} (fits : Fits g t) {src : ℕ} {s : Core} {fs :
     again-nested y β p e o h (no z) = omega (arith, lift .off y z, facts .limits .nested y β p e o h, lim-up p)
 
     again-stands : (y : ℕ) → Dec (y ≡ c) → Standing t s fs lim y (s .shelf .bucket y)
-      → Standing t (grown s (s .base) (s .count) h′) (record { node = c; began = began } ∷ fs) lim′ y (h′ .bucket y)
+        → Standing t (grown s (s .base) (s .count) h′) (record { node = c; began = began } ∷ fs) lim′ y (h′ .bucket y)
     again-stands y (yes z) st = visiting (inl z) (ap (h′ .bucket) z ∙ set .at)
     again-stands y (no z) (loose h e) = loose h (set .off y z ∙ e)
     again-stands y (no z) (fresh p β h b n bel) = fresh p β h b n (belongs-at (set .off y z) bel)
     again-stands y (no z) (visiting o e) = visiting (inr o) (set .off y z ∙ e)
     again-stands y (no z) (through h a e) = through h a (set .off y z ∙ e)
-    again-stands y (no z) (waiting p β δ j h b d n op l m w sl) = waiting p β δ j h b d (elim [ inl q ↦ z q | inr q ↦ n q ]) op l m (lift .off y z ∙ w) (slot-at (set .off y z) sl)
+    again-stands y (no z) (waiting p β δ j h b d n op l m w sl) =
+        waiting p β δ j h b d (elim [ inl q ↦ z q | inr q ↦ n q ]) op l m (lift .off y z ∙ w) (slot-at (set .off y z) sl)
 
     pub again-facts : Facts g t src (grown s (s .base) (s .count) h′) (record { node = c; began = began } ∷ fs) lim′
     again-facts =
@@ -68,11 +67,11 @@ module _ {g : Network} {t : Tree} (fits : Fits g t) {src : ℕ} {s : Core} {fs :
             nested = λ y β p e o h. again-nested y β p e o h (ℕ-discrete y c);
             passed = λ y β w d e o i h. omega (arith, facts .limits .passed y β w d e o i h, lim-up y);
             far = facts .limits .far;
-            room = facts .limits .room
+            room = facts .limits .room;
           };
           stands = λ y. again-stands y (ℕ-discrete y c) (facts .stands y);
           stack = stack′;
-          top = λ f gs e. begins (lift .at) top′ e
+          top = λ f gs e. begins (lift .at) top′ e;
         }
 
   -- c is expanded, and visited for the first time; h is the shelf without it
@@ -82,7 +81,6 @@ module _ {g : Network} {t : Tree} (fits : Fits g t) {src : ℕ} {s : Core} {fs :
       (far-c : (u : ℕ) (ks : List ℕ) → In t u c → s .final u ≡ None → Route g src ks u → count′ c * width t c ≤ sum g ks)
       (stack′ : Stack t src base′ count′ lim′ (record { node = c; began = began } ∷ fs))
       (top′ : (p : ℕ) → t .parent c ≡ Some p → coarse t c p (count′ c) ≡ began) where
-
     -- an expanded node is not c
     other : {y β : ℕ} → s .base y ≡ Some β → y ≢ c
     other e z = some-none e (ap (s .base) z ∙ shut)
@@ -118,7 +116,13 @@ module _ {g : Network} {t : Tree} (fits : Fits g t) {src : ℕ} {s : Core} {fs :
     early′ : (y β : ℕ) → base′ y ≡ Some β → Dec (y ≡ c) → Early t (s .final) (s .soFar) y β
     early′ y β e (no z) = facts .early y β (was z e)
     early′ y β e (yes z) =
-        rw (z, start e z) (record { at = ex .lowest .at; inside = ex .lowest .inside; d = d; seen = inr (ex .lowest .known); early = bucket-high d (width t c) (d / width t c) (width-pos t c) refl })
+        rw (z, start e z) (record {
+          at = ex .lowest .at;
+          inside = ex .lowest .inside;
+          d = d;
+          seen = inr (ex .lowest .known);
+          early = bucket-high d (width t c) (d / width t c) (width-pos t c) refl;
+        })
 
     floor′ : (y β : ℕ) → base′ y ≡ Some β → Dec (y ≡ c) → count′ y * width t y ≤ lim′ y
     floor′ y β e (yes z) = rw z (omega (arith, lift .at))
@@ -136,7 +140,8 @@ module _ {g : Network} {t : Tree} (fits : Fits g t) {src : ℕ} {s : Core} {fs :
     nested′ y β p e o q (yes z) =
         let q′ : t .parent c ≡ Some p = ap (t .parent) (sym z) ∙ q in
         omega (arith, ap lim′ z, lift .at, under p q′, lift .off p (other (ups p q′ .based)))
-    nested′ y β p e o q (no z) = omega (arith, lift .off y z, facts .limits .nested y β p (was z e) o q, lift .off p (other (facts .grown .upward y β p (was z e) q .based)))
+    nested′ y β p e o q (no z) =
+        omega (arith, lift .off y z, facts .limits .nested y β p (was z e) o q, lift .off p (other (facts .grown .upward y β p (was z e) q .based)))
 
     passed′ : (y β w e : ℕ) → base′ y ≡ Some β → Open t (s .final) y → In t w y → s .final w ≡ Some e → Dec (y ≡ c) → e < lim′ y
     passed′ y β w e b o i q (yes z) = absurd (none-seen (rw z at (i .below)) (i .station) q)
@@ -156,7 +161,7 @@ module _ {g : Network} {t : Tree} (fits : Fits g t) {src : ℕ} {s : Core} {fs :
     shut-child {y} q (Some β) e = absurd (other (facts .grown .upward y β c e q .based) refl)
 
     stands′ : (y : ℕ) → Dec (y ≡ c) → (o : Option ℕ) → t .parent y ≡ o → Standing t s fs lim y (s .shelf .bucket y)
-      → Standing t (grown s base′ count′ h′) (record { node = c; began = began } ∷ fs) lim′ y (h′ .bucket y)
+        → Standing t (grown s base′ count′ h′) (record { node = c; began = began } ∷ fs) lim′ y (h′ .bucket y)
     stands′ y (yes z) o q st = visiting (inl z) (ap (h′ .bucket) z ∙ puts-off c (λ a. above-other fits (fits .child c c a) self refl) (ex .puts) ∙ taken .at)
     stands′ y (no z) o q st = pick o q
       where
@@ -165,19 +170,23 @@ module _ {g : Network} {t : Tree} (fits : Fits g t) {src : ℕ} {s : Core} {fs :
           where
             same : h′ .bucket y ≡ s .shelf .bucket y
             same = puts-off y (λ a. n (fits .child c y a)) (ex .puts) ∙ taken .off y z
+
             go : Standing t s fs lim y (s .shelf .bucket y) → Standing t (grown s base′ count′ h′) (record { node = c; began = began } ∷ fs) lim′ y (h′ .bucket y)
             go (loose q e) = loose (λ p r. ex .base .off p (λ w. n (r ∙ ap Some w)) ∙ q p r) (same ∙ e)
             go (fresh p β q b m bel) = fresh p β q (kept p β b) (ex .base .off y z ∙ m) (belongs-keep (λ u i. refl) kept (belongs-at same bel))
             go (visiting o e) = visiting (inr o) (same ∙ e)
             go (through q a e) = through (kept-expanded q) a (same ∙ e)
             go (waiting p β δ j q b e m op l k w sl) =
-                waiting p β δ j q (kept p β b) (kept y δ e) (elim [ inl r ↦ z r | inr r ↦ m r ]) op (l ∙ sym (same-line y z)) (omega (arith, k, ex .count .off p (other b))) (lift .off y z ∙ w ∙ sym (same-line y z)) (slot-at same sl)
+                waiting p β δ j q (kept p β b) (kept y δ e) (elim [ inl r ↦ z r | inr r ↦ m r ]) op (l ∙ sym (same-line y z))
+                (omega (arith, k, ex .count .off p (other b))) (lift .off y z ∙ w ∙ sym (same-line y z)) (slot-at same sl)
+
         pick : (o : Option ℕ) → t .parent y ≡ o → Standing t (grown s base′ count′ h′) (record { node = c; began = began } ∷ fs) lim′ y (h′ .bucket y)
         pick None q = plain (λ r. some-none r q)
         pick (Some p) q = elim (ℕ-discrete p c) [
-            yes r ↦ (let q′ : t .parent y ≡ Some c = q ∙ ap Some r in fresh c (d / width t c) q′ (ex .base .at) (ex .base .off y z ∙ shut-child q′ (s .base y) refl) (puts-at y (fits .once c) (fits .listed c y q′) (ex .puts)))
+          | yes r ↦ (let q′ : t .parent y ≡ Some c = q ∙ ap Some r in fresh c (d / width t c) q′ (ex .base .at)
+              (ex .base .off y z ∙ shut-child q′ (s .base y) refl) (puts-at y (fits .once c) (fits .listed c y q′) (ex .puts)))
           | no r ↦ plain (λ w. r (same-some q w))
-          ]
+        ]
 
     pub expand-facts : Facts g t src (grown s base′ count′ h′) (record { node = c; began = began } ∷ fs) lim′
     expand-facts =
@@ -186,7 +195,7 @@ module _ {g : Network} {t : Tree} (fits : Fits g t) {src : ℕ} {s : Core} {fs :
           grown = record {
             inner = λ y β e. inner′ y β e (ℕ-discrete y c);
             entered = λ w e p q r. kept-expanded (facts .grown .entered w e p q r);
-            upward = λ y β p e q. upward′ y β p e q (ℕ-discrete y c)
+            upward = λ y β p e q. upward′ y β p e q (ℕ-discrete y c);
           };
           early = λ y β e. early′ y β e (ℕ-discrete y c);
           limits = record {
@@ -196,9 +205,9 @@ module _ {g : Network} {t : Tree} (fits : Fits g t) {src : ℕ} {s : Core} {fs :
             nested = λ y β p e o q. nested′ y β p e o q (ℕ-discrete y c);
             passed = λ y β w e b o i q. passed′ y β w e b o i q (ℕ-discrete y c);
             far = λ y β u ks e i q p. far′ y β u ks e i q p (ℕ-discrete y c);
-            room = λ y β e. room′ y β e (ℕ-discrete y c)
+            room = λ y β e. room′ y β e (ℕ-discrete y c);
           };
           stands = λ y. stands′ y (ℕ-discrete y c) (t .parent y) refl (facts .stands y);
           stack = stack′;
-          top = λ f gs e. begins (lift .at) top′ e
+          top = λ f gs e. begins (lift .at) top′ e;
         }

@@ -81,21 +81,21 @@ pub data Standing (t : Tree) (s : Core) (fs : List Frame) (lim : ℕ → ℕ) (c
   through : Expanded (s .base) c → ¬ Open t (s .final) c → b ≡ None → Standing t s fs lim c b
   -- it is expanded, and waits: its counter stands at a line of its parent's, not behind, and it in that bucket
   waiting : (p β γ k : ℕ) → t .parent c ≡ Some p → s .base p ≡ Some β → s .base c ≡ Some γ → ¬ On fs c → Open t (s .final) c
-    → (β + k) * width t p ≡ line t (s .count) c → s .count p ≤ β + k → lim c ≡ line t (s .count) c → Slot t p k b → Standing t s fs lim c b
+      → (β + k) * width t p ≡ line t (s .count) c → s .count p ≤ β + k → lim c ≡ line t (s .count) c → Slot t p k b → Standing t s fs lim c b
 
 -- the frames: a node, its parent and so on up to the root of the source, each visit below the top still in the bucket in which it began
 pub data Stack (t : Tree) (src : ℕ) (base : ℕ → Option ℕ) (count lim : ℕ → ℕ) : List Frame → Type 0 where
   empty : Stack t src base count lim []
   bottom : (f : Frame) → Expanded base (f .node) → t .parent (f .node) ≡ None → Below t src (f .node) → Stack t src base count lim (f ∷ [])
   above : (f h : Frame) (fs : List Frame) → Expanded base (f .node) → t .parent (f .node) ≡ Some (h .node) → f .began ≡ count (h .node)
-    → Same t count h → lim (h .node) ≡ line t count (h .node) + width t (h .node)
-    → Stack t src base count lim (h ∷ fs) → Stack t src base count lim (f ∷ h ∷ fs)
+      → Same t count h → lim (h .node) ≡ line t count (h .node) + width t (h .node)
+      → Stack t src base count lim (h ∷ fs) → Stack t src base count lim (f ∷ h ∷ fs)
 
 -- the innermost visit: it goes on, or its counter has just come to the limit of the parent
 pub record Top (t : Tree) (count lim : ℕ → ℕ) (f : Frame) : Type 0 where
   pub same : Same t count f → lim (f .node) ≡ line t count (f .node) + width t (f .node)
   pub risen : (p : ℕ) → t .parent (f .node) ≡ Some p → coarse t (f .node) p (count (f .node)) ≢ f .began
-    → (lim (f .node) ≡ line t count (f .node)) × (lim (f .node) ≡ lim p)
+      → (lim (f .node) ≡ line t count (f .node)) × (lim (f .node) ≡ lim p)
 
 pub record Facts (g : Network) (t : Tree) (src : ℕ) (s : Core) (fs : List Frame) (lim : ℕ → ℕ) : Type 0 where
   pub delays : Delays g t src (s .final) (s .soFar)

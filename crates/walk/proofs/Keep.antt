@@ -29,11 +29,14 @@ change {A} f v x = record { to = new; set = record { at = at (ℕ-discrete v v);
     pick : (u : ℕ) → Dec (u ≡ v) → A
     pick u (yes e) = x
     pick u (no n) = f u
+
     new : ℕ → A
     new u = pick u (ℕ-discrete u v)
+
     at : (d : Dec (v ≡ v)) → pick v d ≡ x
     at (yes e) = refl
     at (no n) = absurd (n refl)
+
     off : (u : ℕ) → u ≢ v → (d : Dec (u ≡ v)) → pick u d ≡ f u
     off u n (yes e) = absurd (n e)
     off u n (no m) = refl
@@ -57,10 +60,17 @@ lowest-keep : {t : Tree} {soFar soFar′ : ℕ → Option ℕ} {c d : ℕ} → (
 lowest-keep h l = record { at = l .at; inside = l .inside; known = h (l .at) (l .inside) ∙ l .known; least = λ u y i e. l .least u y i (sym (h u i) ∙ e) }
 
 pub belongs-keep : {t : Tree} {soFar soFar′ base base′ : ℕ → Option ℕ} {c : ℕ} {b : Option ℕ} → ((u : ℕ) → In t u c → soFar′ u ≡ soFar u)
-  → ((x β : ℕ) → base x ≡ Some β → base′ x ≡ Some β) → Belongs t soFar base c b → Belongs t soFar′ base′ c b
+    → ((x β : ℕ) → base x ≡ Some β → base′ x ≡ Some β) → Belongs t soFar base c b → Belongs t soFar′ base′ c b
 belongs-keep h g (unknown a e) = unknown (λ u i. h u i ∙ a u i) e
 belongs-keep h g (falls x k f l) =
-    falls x k (record { parent = f .parent; start = f .start; based = g x (f .start) (f .based); least = f .least; lowest = lowest-keep h (f .lowest); spot = f .spot }) l
+    falls x k (record {
+      parent = f .parent;
+      start = f .start;
+      based = g x (f .start) (f .based);
+      least = f .least;
+      lowest = lowest-keep h (f .lowest);
+      spot = f .spot;
+    }) l
 
 pub moved-set : {t : Tree} {c : ℕ} {b : Option ℕ} {h h′ : Shelf} → Moved t c b h h′ → Changed (h .bucket) c b (h′ .bucket)
 moved-set {c = c} (there a e) = record { at = ap (λ (k : Shelf). k .bucket c) e ∙ a; off = λ u n. ap (λ (k : Shelf). k .bucket u) e }
@@ -71,7 +81,8 @@ pub puts-off : {t : Tree} {soFar base : ℕ → Option ℕ} {cs : List ℕ} {h h
 puts-off y n done = refl
 puts-off y n (put b bel p r) = puts-off y (λ a. n (inr a)) r ∙ p .set .off y (λ e. n (inl e))
 
-pub puts-at : {t : Tree} {soFar base : ℕ → Option ℕ} {cs : List ℕ} {h h′ : Shelf} (y : ℕ) → Distinct cs → Among y cs → Puts t soFar base cs h h′ → Belongs t soFar base y (h′ .bucket y)
+pub puts-at : {t : Tree} {soFar base : ℕ → Option ℕ} {cs : List ℕ} {h h′ : Shelf} (y : ℕ) → Distinct cs → Among y cs → Puts t soFar base cs h h′
+    → Belongs t soFar base y (h′ .bucket y)
 puts-at y d a done = elim a [ ]
 puts-at y d (inl e) (put {c = c} b bel p r) = rw e (belongs-at (puts-off c (d .0) r ∙ p .set .at) bel)
 puts-at y d (inr a) (put b bel p r) = puts-at y (d .1) a r
@@ -82,17 +93,17 @@ OnTail [] x = ⊥
 OnTail (f ∷ fs) x = On fs x
 
 pub restack : {t : Tree} {src : ℕ} {base base′ : ℕ → Option ℕ} {count count′ lim lim′ : ℕ → ℕ} {fs : List Frame} → ((x : ℕ) → Expanded base x → Expanded base′ x)
-  → ((x : ℕ) → OnTail fs x → (count′ x ≡ count x) × (lim′ x ≡ lim x)) → Stack t src base count lim fs → Stack t src base′ count′ lim′ fs
+    → ((x : ℕ) → OnTail fs x → (count′ x ≡ count x) × (lim′ x ≡ lim x)) → Stack t src base count lim fs → Stack t src base′ count′ lim′ fs
 restack h k empty = empty
 restack h k (bottom f e n b) = bottom f (h (f .node) e) n b
 restack {t} h k (above f g fs e p m a l r) =
     let q = k (g .node) (inl refl) in
-    above f g fs (h (f .node) e) p (m ∙ sym (q .0)) (λ y i. ap (coarse t (g .node) y) (q .0) ∙ a y i) (q .1 ∙ l ∙ ap (λ z. z * width t (g .node) + width t (g .node)) (sym (q .0)))
-      (restack h (λ x o. k x (inr o)) r)
+    above f g fs (h (f .node) e) p (m ∙ sym (q .0)) (λ y i. ap (coarse t (g .node) y) (q .0) ∙ a y i)
+    (q .1 ∙ l ∙ ap (λ z. z * width t (g .node) + width t (g .node)) (sym (q .0)))
+    (restack h (λ x o. k x (inr o)) r)
 
 -- the frames below the top hold it in the tree
 module _ {t : Tree} {src : ℕ} {base : ℕ → Option ℕ} {count lim : ℕ → ℕ} where
-
   pub on-above : {f : Frame} {fs : List Frame} {y : ℕ} → Stack t src base count lim (f ∷ fs) → On fs y → (p : ℕ) × (t .parent (f .node) ≡ Some p) × Below t p y
   on-above (bottom f e n b) o = elim o [ ]
   on-above (above f h fs e p m a l r) (inl z) = (h .node, p, rw z self)
@@ -116,24 +127,24 @@ module _ {t : Tree} {src : ℕ} {base : ℕ → Option ℕ} {count lim : ℕ →
   top-expanded (above f h fs e p m a l r) = e
 
   -- the parent of the top is the next frame, and its counter is where the visit began
-  pub began-at : {f : Frame} {fs : List Frame} {p : ℕ} → Stack t src base count lim (f ∷ fs) → t .parent (f .node) ≡ Some p → (f .began ≡ count p) × (lim p ≡ line t count p + width t p)
+  pub began-at : {f : Frame} {fs : List Frame} {p : ℕ} → Stack t src base count lim (f ∷ fs) → t .parent (f .node) ≡ Some p
+      → (f .began ≡ count p) × (lim p ≡ line t count p + width t p)
   began-at (bottom f e n b) h = absurd (some-none h n)
   began-at {p = q} (above f g fs e p m a l r) h =
       let z : g .node ≡ q = same-some p h in
       (m ∙ ap count z, ap lim (sym z) ∙ l ∙ ap (λ a. line t count a + width t a) z)
 
 module _ {g : Network} {t : Tree} (fits : Fits g t) {src : ℕ} {s : Core} {fs : List Frame} {lim : ℕ → ℕ} (facts : Facts g t src s fs lim) where
-
   -- there is one unexpanded node that holds u and whose parent is expanded
   front-below : {a b x : ℕ} → t .parent a ≡ Some x → Expanded (s .base) x → s .base b ≡ None → Below t a b → a ≡ b
   front-below p e m self = refl
   front-below {b = b} {x = x} p e m (up {p = q} h r) = let z : q ≡ x = same-some h p in absurd (some-none (expanded-up fits facts e (rw z at r) .based) m)
 
-  pub front-one : {u a b x y : ℕ} → Below t u a → Below t u b → t .parent a ≡ Some x → Expanded (s .base) x → s .base a ≡ None → t .parent b ≡ Some y → Expanded (s .base) y → s .base b ≡ None → a ≡ b
+  pub front-one : {u a b x y : ℕ} → Below t u a → Below t u b → t .parent a ≡ Some x → Expanded (s .base) x → s .base a ≡ None → t .parent b ≡ Some y
+      → Expanded (s .base) y → s .base b ≡ None → a ≡ b
   front-one i j p e n q f m = elim (nest i j) [ inl h ↦ front-below p e m h | inr h ↦ sym (front-below q f n h) ]
 
   module _ {f : Frame} {gs : List Frame} (ef : fs ≡ f ∷ gs) where
-
     pub the-stack : Stack t src (s .base) (s .count) lim (f ∷ gs)
     the-stack = subst (λ z. Stack t src (s .base) (s .count) lim z) ef (facts .stack)
 

@@ -64,12 +64,11 @@ ratio t x p = 2 ^ (t .level p - t .level x)
 
 -- the lines of x among those of its parent p
 module _ {g : Network} {t : Tree} (fits : Fits g t) {x p : ℕ} (h : t .parent x ≡ Some p) (i : Inner t x) where
-
   ratio-pos : 0 < ratio t x p
   ratio-pos = pow-pos (t .level p - t .level x)
 
   widths : width t p ≡ ratio t x p * width t x
-  widths = ap (λ k. 2 ^ k) (split (t .level p) (t .level x) (fits .high x i) (fits .rising x p h)) ∙ pow-add 2 (t .level p - t .level x) (t .level x - 1)
+  widths = ap (λ k. 2 ^ k) (split (t .level p) (t .level x) (fits .positive x i) (fits .rising x p h)) ∙ pow-add 2 (t .level p - t .level x) (t .level x - 1)
     where
       split : (a b : ℕ) → 1 ≤ b → b < a → a - 1 ≡ (a - b) + (b - 1)
       split a b h l = omega arith
@@ -82,8 +81,13 @@ module _ {g : Network} {t : Tree} (fits : Fits g t) {x p : ℕ} (h : t .parent x
 
   pub coarse-high : (k b : ℕ) → coarse t x p k ≡ b → k * width t x + width t x ≤ b * width t p + width t p
   coarse-high k b e =
-      omega (arith, line-mono (suc k) (suc b * ratio t x p) (width t x) (omega (arith, bucket-high k (ratio t x p) b ratio-pos e, suc-line b (ratio t x p))),
-        suc-line k (width t x), lines (suc b), suc-line b (width t p))
+      omega (
+        arith,
+        line-mono (suc k) (suc b * ratio t x p) (width t x) (omega (arith, bucket-high k (ratio t x p) b ratio-pos e, suc-line b (ratio t x p))),
+        suc-line k (width t x),
+        lines (suc b),
+        suc-line b (width t p),
+      )
 
   -- one past the last line of a bucket of p
   pub coarse-past : (k b : ℕ) → coarse t x p k ≡ b → coarse t x p (suc k) ≢ b → k * width t x + width t x ≡ b * width t p + width t p
@@ -92,8 +96,14 @@ module _ {g : Network} {t : Tree} (fits : Fits g t) {x p : ℕ} (h : t .parent x
       go : Dec (suc k < b * ratio t x p + ratio t x p) → k * width t x + width t x ≡ b * width t p + width t p
       go (yes l) = absurd (n (bucket-is (suc k) (ratio t x p) b ratio-pos (omega (arith, bucket-low k (ratio t x p) b e)) l))
       go (no l) =
-          omega (arith, coarse-high k b e, line-mono (suc b * ratio t x p) (suc k) (width t x) (omega (arith, suc-line b (ratio t x p))),
-            suc-line k (width t x), lines (suc b), suc-line b (width t p))
+          omega (
+            arith,
+            coarse-high k b e,
+            line-mono (suc b * ratio t x p) (suc k) (width t x) (omega (arith, suc-line b (ratio t x p))),
+            suc-line k (width t x),
+            lines (suc b),
+            suc-line b (width t p),
+          )
 
   -- a delay's bucket of x lies in its bucket of p
   pub coarse-least : (d : ℕ) → coarse t x p (d / width t x) ≡ d / width t p

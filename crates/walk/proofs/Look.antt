@@ -20,10 +20,9 @@ use Rattle.walk.proofs.Keep.{slot-at, belongs-at, belongs-keep, moved-set, fro
 
 module _ {g : Network} {t : Tree} (fits : Fits g t) {src : ℕ} {s : Core} {fs : List Frame} {lim : ℕ → ℕ} (facts : Facts g t src s fs lim)
     {v d k : ℕ} (seen : s .final v ≡ Some d) where
-
   -- what a lowering writes is the sum of a route
   pub found′ : {u : ℕ} {soFar′ : ℕ → Option ℕ} → Hop g k v u → s .final u ≡ None → Changed (s .soFar) u (Some (d + delay g k)) soFar′
-    → (w y : ℕ) → soFar′ w ≡ Some y → Dec (w ≡ u) → Found g t src (s .final) w y
+      → (w y : ℕ) → soFar′ w ≡ Some y → Dec (w ≡ u) → Found g t src (s .final) w y
   found′ j n low w y e (no z) = facts .delays .found w y (sym (low .off w z) ∙ e)
   found′ {u} {soFar′} j n low w y e (yes z) =
       let q : y ≡ d + delay g k = same-some (ap soFar′ (sym z) ∙ e) (low .at) in
@@ -33,16 +32,22 @@ module _ {g : Network} {t : Tree} (fits : Fits g t) {src : ℕ} {s : Core} {fs :
   module _ {u c : ℕ} {b : Option ℕ} {soFar′ : ℕ → Option ℕ} {h′ : Shelf} (j : Hop g k v u) (n : s .final u ≡ None)
       (nearer : (y : ℕ) → s .soFar u ≡ Some y → d + delay g k < y) (low : Changed (s .soFar) u (Some (d + delay g k)) soFar′)
       (front : Front t (s .base) u c) (bel : Belongs t soFar′ (s .base) c b) (move : Moved t c b (s .shelf) h′) where
-
     start′ : s .soFar src ≡ Some 0 → Dec (src ≡ u) → soFar′ src ≡ Some 0
     start′ e (yes z) = absurd (omega (arith, nearer 0 (ap (s .soFar) (sym z) ∙ e)))
     start′ e (no z) = low .off src z ∙ e
 
-    early′ : {x β : ℕ} (r : Early t (s .final) (s .soFar) x β) → (s .final (r .at) ≡ Some (r .d)) ⊎ (s .soFar (r .at) ≡ Some (r .d)) → Dec (r .at ≡ u) → Early t (s .final) soFar′ x β
+    early′ : {x β : ℕ} (r : Early t (s .final) (s .soFar) x β) → (s .final (r .at) ≡ Some (r .d)) ⊎ (s .soFar (r .at) ≡ Some (r .d)) → Dec (r .at ≡ u)
+        → Early t (s .final) soFar′ x β
     early′ r (inl h) q = record { at = r .at; inside = r .inside; d = r .d; seen = inl h; early = r .early }
     early′ r (inr h) (no z) = record { at = r .at; inside = r .inside; d = r .d; seen = inr (low .off (r .at) z ∙ h); early = r .early }
     early′ r (inr h) (yes z) =
-        record { at = r .at; inside = r .inside; d = d + delay g k; seen = inr (ap soFar′ z ∙ low .at); early = omega (arith, r .early, nearer (r .d) (ap (s .soFar) (sym z) ∙ h)) }
+        record {
+          at = r .at;
+          inside = r .inside;
+          d = d + delay g k;
+          seen = inr (ap soFar′ z ∙ low .at);
+          early = omega (arith, r .early, nearer (r .d) (ap (s .soFar) (sym z) ∙ h));
+        }
 
     stands′ : (y : ℕ) → Dec (y ≡ c) → Standing t s fs lim y (s .shelf .bucket y) → Standing t (lowered s soFar′ h′) fs lim y (h′ .bucket y)
     stands′ y (yes z) st = rw z (fresh (front .x) (front .start) (front .parent) (front .based) (front .shut) (belongs-at (moved-set move .at) bel))
@@ -50,6 +55,7 @@ module _ {g : Network} {t : Tree} (fits : Fits g t) {src : ℕ} {s : Core} {fs :
       where
         same : h′ .bucket y ≡ s .shelf .bucket y
         same = moved-set move .off y z
+
         go : Standing t s fs lim y (s .shelf .bucket y) → Standing t (lowered s soFar′ h′) fs lim y (h′ .bucket y)
         go (loose h e) = loose h (same ∙ e)
         go (visiting o e) = visiting o (same ∙ e)
@@ -58,7 +64,9 @@ module _ {g : Network} {t : Tree} (fits : Fits g t) {src : ℕ} {s : Core} {fs :
         go (fresh p β h q m bel) = fresh p β h q m (belongs-at same (belongs-keep kept (λ x γ e. e) bel))
           where
             kept : (w : ℕ) → In t w y → soFar′ w ≡ s .soFar w
-            kept w i = low .off w (λ r. z (front-one fits facts (rw r at (i .below)) (front .holds) h (record { start = β; based = q }) m (front .parent) (record { start = front .start; based = front .based }) (front .shut)))
+            kept w i =
+                low .off w (λ r. z (front-one fits facts (rw r at (i .below)) (front .holds) h (record { start = β; based = q }) m (front .parent)
+                (record { start = front .start; based = front .based }) (front .shut)))
 
     pub lower-facts : Facts g t src (lowered s soFar′ h′) fs lim
     lower-facts =
@@ -66,14 +74,14 @@ module _ {g : Network} {t : Tree} (fits : Fits g t) {src : ℕ} {s : Core} {fs :
           delays = record {
             exact = facts .delays .exact;
             found = λ w y e. found′ j n low w y e (ℕ-discrete w u);
-            start = elim (facts .delays .start) [ inl a ↦ inl a | inr e ↦ inr (start′ e (ℕ-discrete src u)) ]
+            start = elim (facts .delays .start) [ inl a ↦ inl a | inr e ↦ inr (start′ e (ℕ-discrete src u)) ];
           };
           grown = facts .grown;
           early = λ x β e. let r = facts .early x β e in early′ r (r .seen) (ℕ-discrete (r .at) u);
           limits = facts .limits;
           stands = λ y. stands′ y (ℕ-discrete y c) (facts .stands y);
           stack = facts .stack;
-          top = facts .top
+          top = facts .top;
         }
 
   pub link-facts : {s₁ : Core} → Link g t v d k s s₁ → Facts g t src s₁ fs lim
@@ -102,6 +110,7 @@ module _ {g : Network} {t : Tree} (fits : Fits g t) {src : ℕ} {s : Core} {fs :
       better : Known (s .soFar) u (e + delay g i) → Dec (u ≡ u′) → Known soFar′ u (e + delay g i)
       better r (yes z) = record { y = d + delay g k; known = ap soFar′ z ∙ low .at; near = omega (arith, r .near, nearer (r .y) (ap (s .soFar) (sym z) ∙ r .known)) }
       better r (no z) = record { y = r .y; known = low .off u z ∙ r .known; near = r .near }
+
       go : Dec (w ≡ v) → Dec (i ≡ k) → Known soFar′ u (e + delay g i)
       go (yes z) (yes y) =
           let q : u′ ≡ u = other-end j′ (rw (z, y) at j) in
@@ -129,11 +138,11 @@ link-alike (lower u c b soFar′ h′ j n nearer low front bel move) = record { 
 
 pub links-alike : {g : Network} {t : Tree} {v d : ℕ} {s : Core} {k : ℕ} {s₁ : Core} → Links g t v d s k s₁ → Alike s s₁
 links-alike begun = record { final = refl; base = refl; count = refl }
-links-alike (next r l) = let p = links-alike r in let q = link-alike l in record { final = q .final ∙ p .final; base = q .base ∙ p .base; count = q .count ∙ p .count }
+links-alike (next r l) =
+    let p = links-alike r in let q = link-alike l in record { final = q .final ∙ p .final; base = q .base ∙ p .base; count = q .count ∙ p .count }
 
 module _ {g : Network} {t : Tree} (fits : Fits g t) {src v d : ℕ} {fs : List Frame} {lim : ℕ → ℕ} {s : Core} (facts : Facts g t src s fs lim)
     (seen : s .final v ≡ Some d) (old : LookedTo g (s .final) (s .soFar) v 0) where
-
   pub links-looking : {k : ℕ} {s₁ : Core} → Links g t v d s k s₁ → Looking g t src v k s s₁ fs lim
   links-looking begun = record { facts = facts; looked = old; final = refl }
   links-looking (next r l) =

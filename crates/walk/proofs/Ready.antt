@@ -40,33 +40,71 @@ low {g} {t} fits soFar x (suc n) = go (tell fits n x) (soFar n) refl (low fits s
   where
     last : {u : ℕ} → u < suc n → u ≢ n → u < n
     last h z = omega arith
+
     -- n is not known, or not in x
-    skip : ((y : ℕ) → Below t n x → soFar n ≡ Some y → ⊥) → (Below t n x → soFar n ≡ None) → Low t soFar x n ⊎ High t soFar x n → Low t soFar x (suc n) ⊎ High t soFar x (suc n)
+    skip : ((y : ℕ) → Below t n x → soFar n ≡ Some y → ⊥) → (Below t n x → soFar n ≡ None) → Low t soFar x n ⊎ High t soFar x n
+        → Low t soFar x (suc n) ⊎ High t soFar x (suc n)
     skip no-n none-n (inl l) =
-        inl (record { d = l .d; at = l .at; inside = l .inside; small = omega (arith, l .small); known = l .known;
-          least = λ u y h b e. elim (ℕ-discrete u n) [ yes z ↦ absurd (no-n y (subst (λ a. Below t a x) z b) (ap soFar (sym z) ∙ e)) | no z ↦ l .least u y (last h z) b e ] })
+        inl (record {
+          d = l .d;
+          at = l .at;
+          inside = l .inside;
+          small = omega (arith, l .small);
+          known = l .known;
+          least =
+              λ u y h b e. elim (ℕ-discrete u n) [
+                | yes z ↦ absurd (no-n y (subst (λ a. Below t a x) z b) (ap soFar (sym z) ∙ e))
+                | no z ↦ l .least u y (last h z) b e
+              ];
+        })
     skip no-n none-n (inr f) = inr (λ u h b. elim (ℕ-discrete u n) [ yes z ↦ ap soFar z ∙ none-n (subst (λ a. Below t a x) z b) | no z ↦ f u (last h z) b ])
+
     -- n is at y, and nothing before it is nearer
     here : (y : ℕ) → Below t n x → soFar n ≡ Some y → ((u w : ℕ) → u < n → Below t u x → soFar u ≡ Some w → y ≤ w) → Low t soFar x (suc n) ⊎ High t soFar x (suc n)
     here y b e f =
-        inl (record { d = y; at = n; inside = b; small = omega arith; known = e;
-          least = λ u w h c q. elim (ℕ-discrete u n) [ yes z ↦ (let a : w ≡ y = same-some (ap soFar (sym z) ∙ q) e in omega arith) | no z ↦ f u w (last h z) c q ] })
+        inl (record {
+          d = y;
+          at = n;
+          inside = b;
+          small = omega arith;
+          known = e;
+          least = λ u w h c q. elim (ℕ-discrete u n) [ yes z ↦ (let a : w ≡ y = same-some (ap soFar (sym z) ∙ q) e in omega arith) | no z ↦ f u w (last h z) c q ];
+        })
+
     go : Dec (Below t n x) → (o : Option ℕ) → soFar n ≡ o → Low t soFar x n ⊎ High t soFar x n → Low t soFar x (suc n) ⊎ High t soFar x (suc n)
     go (no b) o e r = skip (λ y c. absurd (b c)) (λ c. absurd (b c)) r
     go (yes b) None e r = skip (λ y c q. some-none q e) (λ c. e) r
     go (yes b) (Some y) e (inr f) = here y b e (λ u w h c q. absurd (some-none q (f u h c)))
     go (yes b) (Some y) e (inl l) = elim (decLe y (l .d)) [
-        yes r ↦ here y b e (λ u w h c q. omega (arith, l .least u w h c q))
-      | no r ↦ inl (record { d = l .d; at = l .at; inside = l .inside; small = omega (arith, l .small); known = l .known;
-          least = λ u w h c q. elim (ℕ-discrete u n) [ yes z ↦ (let a : w ≡ y = same-some (ap soFar (sym z) ∙ q) e in omega arith) | no z ↦ l .least u w (last h z) c q ] })
-      ]
+      | yes r ↦ here y b e (λ u w h c q. omega (arith, l .least u w h c q))
+      | no r ↦ inl (record {
+        d = l .d;
+        at = l .at;
+        inside = l .inside;
+        small = omega (arith, l .small);
+        known = l .known;
+        least =
+            λ u w h c q. elim (ℕ-discrete u n) [
+              | yes z ↦ (let a : w ≡ y = same-some (ap soFar (sym z) ∙ q) e in omega arith)
+              | no z ↦ l .least u w (last h z) c q
+            ];
+      })
+    ]
 
 -- the least of a node: what a keeper answers
 pub least-of : {g : Network} {t : Tree} → Fits g t → (soFar : ℕ → Option ℕ) (x : ℕ) → ((d : ℕ) × Lowest t soFar x d) ⊎ Nothing t soFar x
 least-of {g} {t} fits soFar x =
     elim (low fits soFar x (t .stations)) [
-      inl l ↦ inl (l .d, record { at = l .at; inside = record { station = l .small; below = l .inside }; known = l .known; least = λ u y i e. l .least u y (i .station) (i .below) e })
-    | inr f ↦ inr (λ u i. f u (i .station) (i .below))
+      | inl l ↦ inl (
+        l .d,
+        record {
+          at = l .at;
+          inside = record { station = l .small; below = l .inside };
+          known = l .known;
+          least = λ u y i e. l .least u y (i .station) (i .below) e;
+        },
+      )
+      | inr f ↦ inr (λ u i. f u (i .station) (i .below))
     ]
 
 -- the bucket in which a child belongs, once its least is known not to be below the base of its parent
@@ -75,7 +113,7 @@ pub record Place (t : Tree) (soFar base : ℕ → Option ℕ) (c : ℕ) : Type 0
   pub belongs : Belongs t soFar base c b
 
 pub place : {g : Network} {t : Tree} (fits : Fits g t) {soFar base : ℕ → Option ℕ} {c x : ℕ} → t .parent c ≡ Some x → (e : Expanded base x)
-  → ((d : ℕ) → Lowest t soFar c d → e .start ≤ d / width t x) → Place t soFar base c
+    → ((d : ℕ) → Lowest t soFar c d → e .start ≤ d / width t x) → Place t soFar base c
 place {g} {t} fits {soFar} {base} {c} {x} h e above = go (least-of fits soFar c)
   where
     go : ((d : ℕ) × Lowest t soFar c d) ⊎ Nothing t soFar c → Place t soFar base c
@@ -84,30 +122,38 @@ place {g} {t} fits {soFar} {base} {c} {x} h e above = go (least-of fits soFar c)
       where
         f : Falls t soFar base c x (d / width t x - e .start)
         f = record { parent = h; start = e .start; based = e .based; least = d; lowest = l; spot = omega (arith, above d l) }
+
         slot : Dec (d / width t x - e .start < t .buckets x) → Place t soFar base c
         slot (yes r) = record { b = Some (t .first x + (d / width t x - e .start)); belongs = falls x (d / width t x - e .start) f (within r refl) }
         slot (no r) = record { b = None; belongs = falls x (d / width t x - e .start) f (past (omega arith) refl) }
 
 -- the shelf puts a child where it belongs
-pub granted : {g : Network} {t : Tree} (fits : Fits g t) {soFar base : ℕ → Option ℕ} {c puts k : ℕ} {b : Option ℕ} → puts < 65535 → Belongs t soFar base c b → b ≡ Some k → Granted t puts c k
+pub granted : {g : Network} {t : Tree} (fits : Fits g t) {soFar base : ℕ → Option ℕ} {c puts k : ℕ} {b : Option ℕ} → puts < 65535
+    → Belongs t soFar base c b → b ≡ Some k → Granted t puts c k
 granted fits few (unknown a z) e = absurd (some-none e z)
 granted fits few (falls x j f (past l z)) e = absurd (some-none e z)
 granted {t = t} fits {c = c} few (falls x j f (within l z)) e =
     record { item = node-of fits (f .parent); bucket = omega (arith, same-some z e, exists fits j (fits .inner c x (f .parent)) l); few = few }
 
 module _ {g : Network} {t : Tree} (fits : Fits g t) {src : ℕ} {s : Core} {fs : List Frame} {lim : ℕ → ℕ} (facts : Facts g t src s fs lim) where
-
   -- a counter is not below its base
   pub base-le : (x β : ℕ) → s .base x ≡ Some β → β ≤ s .count x
   base-le x β e =
-      let h : β < suc (s .count x) = line-lt β (suc (s .count x)) (width t x) (omega (arith, facts .limits .later x β e, facts .limits .cap x β e, suc-line (s .count x) (width t x), width-pos t x)) in
+      let h : β < suc (s .count x) =
+      line-lt β (suc (s .count x)) (width t x) (omega
+      (arith, facts .limits .later x β e, facts .limits .cap x β e, suc-line (s .count x) (width t x), width-pos t x)) in
       omega arith
 
   -- nor is a route to an unvisited station of x
   pub start-le : {x u d : ℕ} (e : Expanded (s .base) x) → In t u x → s .final u ≡ None → Attained g src u d → e .start ≤ d / width t x
   start-le {x} {u} {d} e i h a =
       le-div-iff-mul-le (width-pos t x) .1
-        (omega (arith, facts .limits .far x (e .start) u (a .links) (e .based) i h (a .route), a .total, line-mono (e .start) (s .count x) (width t x) (base-le x (e .start) (e .based))))
+      (omega (
+        arith,
+        facts .limits .far x (e .start) u (a .links) (e .based) i h (a .route),
+        a .total,
+        line-mono (e .start) (s .count x) (width t x) (base-le x (e .start) (e .based)),
+      ))
 
   -- so the least of a child is not below the base of its parent
   pub least-above : {c x : ℕ} → t .parent c ≡ Some x → (e : Expanded (s .base) x) → (d : ℕ) → Lowest t (s .soFar) c d → e .start ≤ d / width t x
@@ -159,4 +205,5 @@ module _ {g : Network} {t : Tree} (fits : Fits g t) {src : ℕ} {s : Core} {fs :
       go None e = absurd (some-none seen (ap (s .final) (sym (station-only fits small (fits .whole v k v u e self j))) ∙ unseen))
       go (Some p) e =
           let r = rooted fits p in
-          climb self (station-shut (ends fits j)) (fits .whole (r .root) k v u (r .top) (up e (r .below)) j) (expanded-up fits facts (facts .grown .entered v d p seen e) (r .below))
+          climb self (station-shut (ends fits j)) (fits .whole (r .root) k v u (r .top) (up e (r .below)) j)
+          (expanded-up fits facts (facts .grown .entered v d p seen e) (r .below))

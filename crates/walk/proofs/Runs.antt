@@ -23,17 +23,22 @@ pub record Held (t : Tree) (held soFar : ℕ → Option ℕ) : Type 0 where
   pub none : (u : ℕ) → t .stations ≤ u → soFar u ≡ None
 
 module _ {t : Tree} (runs : Runs t) {held soFar : ℕ → Option ℕ} (h : Held t held soFar) where
-
-  pub run-lowest : {x p d : ℕ} → x < t .nodes → t .low x ≤ p → p ≤ t .high x → held p ≡ Some d → ((q y : ℕ) → t .low x ≤ q → q ≤ t .high x → held q ≡ Some y → d ≤ y) → Lowest t soFar x d
+  pub run-lowest : {x p d : ℕ} → x < t .nodes → t .low x ≤ p → p ≤ t .high x → held p ≡ Some d
+      → ((q y : ℕ) → t .low x ≤ q → q ≤ t .high x → held q ≡ Some y → d ≤ y) → Lowest t soFar x d
   run-lowest {x} {p} {d} n a b e least =
       let w = runs .seat x p n a b in
-      record { at = w .who; inside = w .inside; known = h .at (w .who) (w .inside .station) ∙ ap held (w .here) ∙ e;
-        least = λ u y i q. least (t .place u) y (runs .starts u x i) (runs .ends u x i) (sym (h .at u (i .station)) ∙ q) }
+      record {
+        at = w .who;
+        inside = w .inside;
+        known = h .at (w .who) (w .inside .station) ∙ ap held (w .here) ∙ e;
+        least = λ u y i q. least (t .place u) y (runs .starts u x i) (runs .ends u x i) (sym (h .at u (i .station)) ∙ q);
+      }
 
   pub run-nothing : {x : ℕ} → ((q : ℕ) → t .low x ≤ q → q ≤ t .high x → held q ≡ None) → Nothing t soFar x
   run-nothing {x} none u i = h .at u (i .station) ∙ none (t .place u) (runs .starts u x i) (runs .ends u x i)
 
-  pub run-changed : {held′ soFar′ : ℕ → Option ℕ} {v : ℕ} {o : Option ℕ} → Held t held′ soFar′ → v < t .stations → Changed held (t .place v) o held′ → Changed soFar v o soFar′
+  pub run-changed : {held′ soFar′ : ℕ → Option ℕ} {v : ℕ} {o : Option ℕ} → Held t held′ soFar′ → v < t .stations → Changed held (t .place v) o held′
+      → Changed soFar v o soFar′
   run-changed {held′} {soFar′} {v} k n c =
       record { at = k .at v n ∙ c .at; off = λ u z. other u z (decLt u (t .stations)) }
     where

@@ -38,22 +38,31 @@ settles g t src s given run =
       least = i .facts .delays .exact;
       no-route = λ v e ks p. reach v e ks p;
       keeper = λ u. nothing u (s .core .soFar u) refl;
-      shelf = λ c. nowhere c (i .facts .stands c)
+      shelf = λ c. nowhere c (i .facts .stands c);
     }
   where
     fits : Fits g t
     fits = given .fits
+
     i : Inv g t src s
     i = walk-inv (given .fits) (given .station) (run .walk)
+
     reach : (v : ℕ) → s .core .final v ≡ None → (ks : List ℕ) → ¬ Route g src ks v
     reach v e ks p =
         let r = rooted (given .fits) src in
-        i .over (run .over) (r .root) (r .top) (r .below) (record { u = v; inside = record { station = route-ends (given .fits) (given .station) p; below = stay (given .fits) (r .top) (r .below) p }; unvisited = e })
+        i .over (run .over) (r .root) (r .top) (r .below) (record {
+          u = v;
+          inside = record { station = route-ends (given .fits) (given .station) p; below = stay (given .fits) (r .top) (r .below) p };
+          unvisited = e;
+        })
+
     known : (u y : ℕ) → s .core .soFar u ≡ Some y → ⊥
     known u y k = let f = i .facts .delays .found u y k in reach u (f .unvisited) (f .attained .links) (f .attained .route)
+
     nothing : (u : ℕ) (o : Option ℕ) → s .core .soFar u ≡ o → s .core .soFar u ≡ None
     nothing u None k = k
     nothing u (Some y) k = absurd (known u y k)
+
     nowhere : (c : ℕ) → Standing t (s .core) (s .frames) (i .lim) c (s .core .shelf .bucket c) → s .core .shelf .bucket c ≡ None
     nowhere c (loose h k) = k
     nowhere c (fresh p β h b m (unknown a k)) = k

@@ -24,7 +24,6 @@ use Rattle.walk.proofs.Visit.{call-facts, call-looked}
 use Rattle.walk.proofs.Enter.{expand-facts}
 
 module _ {g : Network} {t : Tree} (fits : Fits g t) {src : ℕ} (station : src < t .stations) {s : State} (blank : Blank src s) where
-
   only : (u y : ℕ) → s .core .soFar u ≡ Some y → Dec (u ≡ src) → Found g t src (s .core .final) u y
   only u y e (no z) = absurd (some-none e (blank .soFar .off u z))
   only u y e (yes z) =
@@ -38,7 +37,7 @@ module _ {g : Network} {t : Tree} (fits : Fits g t) {src : ℕ} (station : src <
         grown = record {
           inner = λ x β e. absurd (some-none e (blank .base x));
           entered = λ w d p h. absurd (some-none h (blank .final w));
-          upward = λ x β p e. absurd (some-none e (blank .base x))
+          upward = λ x β p e. absurd (some-none e (blank .base x));
         };
         early = λ x β e. absurd (some-none e (blank .base x));
         limits = record {
@@ -48,11 +47,11 @@ module _ {g : Network} {t : Tree} (fits : Fits g t) {src : ℕ} (station : src <
           nested = λ x β p e. absurd (some-none e (blank .base x));
           passed = λ x β w d e. absurd (some-none e (blank .base x));
           far = λ x β u ks e. absurd (some-none e (blank .base x));
-          room = λ x β e. absurd (some-none e (blank .base x))
+          room = λ x β e. absurd (some-none e (blank .base x));
         };
         stands = λ c. loose (λ p h. blank .base p) (blank .bucket c);
         stack = subst (λ z. Stack t src (s .core .base) (s .core .count) (λ x. 0) z) (sym (blank .frames)) empty;
-        top = λ f fs e. absurd (cons-nil e (blank .frames))
+        top = λ f fs e. absurd (cons-nil e (blank .frames));
       }
 
   pub blank-looked : Looked g (s .core .final) (s .core .soFar)
@@ -60,7 +59,6 @@ module _ {g : Network} {t : Tree} (fits : Fits g t) {src : ℕ} (station : src <
 
   -- a source that is its own root
   module _ {final′ soFar′ : ℕ → Option ℕ} (h : t .parent src ≡ None) (call : Call (s .core) src 0 final′ soFar′) where
-
     home : (p : ℕ) → t .parent src ≡ Some p → Expanded (s .core .base) p
     home p q = absurd (some-none q h)
 
@@ -77,10 +75,10 @@ module _ {g : Network} {t : Tree} (fits : Fits g t) {src : ℕ} (station : src <
     bare = record { at = blank .bucket src; off = λ u n. refl }
 
     pub alone-looking : {k : ℕ} {s₁ : Core} → Links g t src 0 (called (s .core) final′ soFar′ (s .core .shelf)) k s₁
-      → Looking g t src src k (called (s .core) final′ soFar′ (s .core .shelf)) s₁ (s .frames) (λ x. 0)
+        → Looking g t src src k (called (s .core) final′ soFar′ (s .core .shelf)) s₁ (s .frames) (λ x. 0)
     alone-looking links =
         links-looking fits (call-facts fits blank-facts station (least-self g src) home before sole waits call (s .core .shelf) bare) (call .final .at)
-          (call-looked fits blank-facts station (least-self g src) home before sole waits call (s .core .shelf) bare blank-looked) links
+        (call-looked fits blank-facts station (least-self g src) home before sole waits call (s .core .shelf) bare blank-looked) links
 
 pub begin-inv : {g : Network} {t : Tree} (fits : Fits g t) {src : ℕ} → src < t .stations → {s s₁ : State} → Begin g t src s s₁ → Inv g t src s₁
 begin-inv {g} {t} fits {src} station {s} (alone final′ soFar′ s₁ blank h call links) =
@@ -94,20 +92,25 @@ begin-inv {g} {t} fits {src} station {s} (alone final′ soFar′ s₁ blank h c
 begin-inv {g} {t} fits {src} station {s} (root r d base′ count′ h′ blank big below h ex) =
     record {
       lim = lift .to;
-      facts = expand-facts fits (blank-facts fits station blank) inn (blank .base r) (record { at = blank .bucket r; off = λ u n. refl }) ex (lift .set) (λ p q. absurd (some-none q h)) (λ p q. absurd (some-none q h)) far-c
-        (subst (λ z. Stack t src base′ count′ (lift .to) (record { node = r; began = 0 } ∷ z)) (sym (blank .frames)) (bottom (record { node = r; began = 0 }) (record { start = d / width t r; based = ex .base .at }) h below))
-        (λ p q. absurd (some-none q h));
+      facts =
+          expand-facts fits (blank-facts fits station blank) inn (blank .base r) (record { at = blank .bucket r; off = λ u n. refl }) ex (lift .set)
+          (λ p q. absurd (some-none q h)) (λ p q. absurd (some-none q h)) far-c
+          (subst (λ z. Stack t src base′ count′ (lift .to) (record { node = r; began = 0 } ∷ z)) (sym (blank .frames))
+          (bottom (record { node = r; began = 0 }) (record { start = d / width t r; based = ex .base .at }) h below))
+          (λ p q. absurd (some-none q h));
       looked = blank-looked fits station blank;
-      over = λ e. absurd (cons-nil refl e)
+      over = λ e. absurd (cons-nil refl e);
     }
   where
     inn : Inner t r
     inn = holder fits station big below
+
     lift : Change (λ x. 0) r (count′ r * width t r + width t r)
     lift = change (λ x. 0) r (count′ r * width t r + width t r)
+
     far-c : (u : ℕ) (ks : List ℕ) → In t u r → s .core .final u ≡ None → Route g src ks u → count′ r * width t r ≤ sum g ks
     far-c u ks k n p =
         elim (pass fits (blank-facts fits station blank) (blank-looked fits station blank) (λ q e. absurd (some-none e h)) k n p) [
-          inl a ↦ omega (arith, bucket-low d (width t r) (count′ r) (sym (ex .count .at)), ex .lowest .least (a .w) (a .y) (a .inside) (a .known), a .near)
-        | inr a ↦ absurd (some-none (a .parent) h)
+          | inl a ↦ omega (arith, bucket-low d (width t r) (count′ r) (sym (ex .count .at)), ex .lowest .least (a .w) (a .y) (a .inside) (a .known), a .near)
+          | inr a ↦ absurd (some-none (a .parent) h)
         ]

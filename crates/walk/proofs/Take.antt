@@ -37,12 +37,13 @@ record Edge (g : Network) (t : Tree) (final : ℕ → Option ℕ) (x : ℕ) : Ty
   pub small : Small g (t .level x) link
 
 edge : {g : Network} {t : Tree} (fits : Fits g t) {x a b d : ℕ} {ks : List ℕ} (final : ℕ → Option ℕ) → Below t a x → final a ≡ Some d → final b ≡ None
-  → Route g a ks b → Each (Small g (t .level x)) ks → Edge g t final x
+    → Route g a ks b → Each (Small g (t .level x)) ks → Edge g t final x
 edge fits final i h n here s = absurd (some-none h n)
 edge {g} {t} fits {x} {a} {b} {d} final i h n (step {b = m} {k = k} {ks = ks} j p) (and s r) = go (final m) refl (λ e i h. edge fits final i h n p r)
   where
     below : Below t m x
     below = routes.inside fits i j s
+
     go : (o : Option ℕ) → final m ≡ o → ((e : ℕ) → Below t m x → final m ≡ Some e → Edge g t final x) → Edge g t final x
     go (Some e) q later = later e below q
     go None q later = record { w = a; d = d; link = k; u = m; inside-w = i; inside-u = below; seen = h; unseen = q; over = j; small = s }
@@ -73,7 +74,6 @@ pub record Due (t : Tree) (soFar : ℕ → Option ℕ) (lim : ℕ → ℕ) (x : 
   pub near : y < lim x + 2 ^ t .level x
 
 module _ {g : Network} {t : Tree} (fits : Fits g t) {src : ℕ} {s : Core} {fs : List Frame} {lim : ℕ → ℕ} (facts : Facts g t src s fs lim) where
-
   pub early-route : {x β : ℕ} (r : Early t (s .final) (s .soFar) x β) → Attained g src (r .at) (r .d)
   early-route r = elim (r .seen) [ inl h ↦ facts .delays .exact (r .at) (r .d) h .attained | inr h ↦ facts .delays .found (r .at) (r .d) h .attained ]
 
@@ -86,7 +86,7 @@ module _ {g : Network} {t : Tree} (fits : Fits g t) {src : ℕ} {s : Core} {fs :
       let a = early-route r in
       let f = facts .limits .far x β (o .u) (a .links ++ n .links) e (o .inside) (o .unvisited) (join (a .route) (n .route)) in
       line-lt (s .count x) (β + t .buckets x) (width t x)
-        (omega (arith, f, join-sum g (a .links) (n .links), a .total, n .short, r .early, fits .room x i, add-mul β (t .buckets x) (width t x)))
+      (omega (arith, f, join-sum g (a .links) (n .links), a .total, n .short, r .early, fits .room x i, add-mul β (t .buckets x) (width t x)))
 
   -- an expanded node that is open has a least
   pub due : Looked g (s .final) (s .soFar) → (x β : ℕ) → s .base x ≡ Some β → Open t (s .final) x → Due t (s .soFar) lim x
@@ -99,16 +99,23 @@ module _ {g : Network} {t : Tree} (fits : Fits g t) {src : ℕ} {s : Core} {fs :
           let l = edge fits (s .final) (r .inside .below) h (o .unvisited) (n .route) (n .small) in
           let k = looked (l .w) (l .d) (l .u) (l .link) (l .seen) (l .unseen) (l .over) in
           let i : In t (l .w) x = record { station = ends fits (flip (l .over)); below = l .inside-w } in
-          record { u = l .u; inside = record { station = ends fits (l .over); below = l .inside-u }; y = k .y; known = k .known;
-            near = omega (arith, k .near, l .small .under, facts .limits .passed x β (l .w) (l .d) e o i (l .seen)) }
+          record {
+            u = l .u;
+            inside = record { station = ends fits (l .over); below = l .inside-u };
+            y = k .y;
+            known = k .known;
+            near = omega (arith, k .near, l .small .under, facts .limits .passed x β (l .w) (l .d) e o i (l .seen));
+          }
 
   pub item : {x c : ℕ} {h′ : Shelf} → Open t (s .final) x → Taken t s x c h′ → New t s x c ⊎ Again t s fs lim x c
   item {x} {c} o tk = go (facts .stands c)
     where
       β : ℕ
       β = tk .now .start
+
       inn : Inner t x
       inn = facts .grown .inner x (tk .now .start) (tk .now .based)
+
       slot : (x′ k′ : ℕ) → Inner t x′ → Slot t x′ k′ (s .shelf .bucket c) → (x′ ≡ x) × (k′ ≡ tk .k)
       slot x′ k′ i (past l e) = absurd (some-none (tk .item) e)
       slot x′ k′ i (within l e) =
@@ -116,6 +123,7 @@ module _ {g : Network} {t : Tree} (fits : Fits g t) {src : ℕ} {s : Core} {fs :
           let same : t .first x′ + k′ ≡ t .first x + tk .k = same-some e (tk .item) in
           let q : x′ ≡ x = separate fits k′ (tk .k) i inn l room same in
           (q, omega (arith, same, ap (t .first) q))
+
       go : Standing t s fs lim c (s .shelf .bucket c) → New t s x c ⊎ Again t s fs lim x c
       go (loose h e) = absurd (some-none (tk .item) e)
       go (visiting h e) = absurd (some-none (tk .item) e)
@@ -124,13 +132,25 @@ module _ {g : Network} {t : Tree} (fits : Fits g t) {src : ℕ} {s : Core} {fs :
       go (fresh p γ h b n (falls x′ k′ f l)) =
           let q = slot x′ k′ (fits .inner c x′ (f .parent)) l in
           let z : f .start ≡ tk .now .start = same-some (f .based) (ap (s .base) (q .0) ∙ tk .now .based) in
-          inl (record { parent = f .parent ∙ ap Some (q .0); shut = n; least = f .least; lowest = f .lowest; here = ap (λ y. f .least / width t y) (sym (q .0)) ∙ f .spot ∙ omega (arith, z, q .1, tk .now .spot) })
+          inl (record {
+            parent = f .parent ∙ ap Some (q .0);
+            shut = n;
+            least = f .least;
+            lowest = f .lowest;
+            here = ap (λ y. f .least / width t y) (sym (q .0)) ∙ f .spot ∙ omega (arith, z, q .1, tk .now .spot);
+          })
       go (waiting p β′ γ k′ h b d n op l m w sl) =
           let q = slot p k′ (fits .inner c p h) sl in
           let z : β′ ≡ tk .now .start = same-some b (ap (s .base) (q .0) ∙ tk .now .based) in
           let a : β′ + k′ ≡ s .count x = omega (arith, z, q .1, tk .now .spot) in
-          inr (record { parent = h ∙ ap Some (q .0); expanded = record { start = γ; based = d }; off = n; more = op;
-            level = sym l ∙ ap (λ y. (β′ + k′) * width t y) (q .0) ∙ ap (λ y. y * width t x) a; limit = w })
+          inr (record {
+            parent = h ∙ ap Some (q .0);
+            expanded = record { start = γ; based = d };
+            off = n;
+            more = op;
+            level = sym l ∙ ap (λ y. (β′ + k′) * width t y) (q .0) ∙ ap (λ y. y * width t x) a;
+            limit = w;
+          })
 
   -- a station that is handed over is at its least delay
   pub record Ripe (x v d : ℕ) : Type 0 where
@@ -139,7 +159,7 @@ module _ {g : Network} {t : Tree} (fits : Fits g t) {src : ℕ} {s : Core} {fs :
     pub least : Least g src v d
 
   pub ripe : Looked g (s .final) (s .soFar) → {f : Frame} {gs : List Frame} {h′ : Shelf} {v d : ℕ} → fs ≡ f ∷ gs → Going t s f → Taken t s (f .node) v h′
-    → v < t .stations → s .soFar v ≡ Some d → Ripe (f .node) v d
+      → v < t .stations → s .soFar v ≡ Some d → Ripe (f .node) v d
   ripe looked {f} {gs} {h′} {v} {d} ef going tk n e = go (item (going .more) tk)
     where
       go : New t s (f .node) v ⊎ Again t s fs lim (f .node) v → Ripe (f .node) v d
@@ -148,12 +168,21 @@ module _ {g : Network} {t : Tree} (fits : Fits g t) {src : ℕ} {s : Core} {fs :
         where
           same : a .least ≡ d
           same = same-some (ap (s .soFar) (sym (station-only fits n (a .lowest .inside .below))) ∙ a .lowest .known) e
+
           short : d < lim (f .node)
-          short = omega (arith, facts .top f gs ef .same (going .same), same, bucket-high (a .least) (width t (f .node)) (s .count (f .node)) (width-pos t (f .node)) (a .here))
+          short =
+              omega (
+                arith,
+                facts .top f gs ef .same (going .same),
+                same,
+                bucket-high (a .least) (width t (f .node)) (s .count (f .node)) (width-pos t (f .node)) (a .here),
+              )
+
           ups : (p : ℕ) → t .parent v ≡ Some p → Expanded (s .base) p
           ups p h = let z : p ≡ f .node = same-some h (a .parent) in record { start = tk .now .start; based = ap (s .base) z ∙ tk .now .based }
+
           all : (ks : List ℕ) → Route g src ks v → d ≤ sum g ks
           all ks p = elim (pass fits facts looked ups (record { station = n; below = self }) (facts .delays .found v d e .unvisited) p) [
-              inl b ↦ (let z : b .y ≡ d = same-some (ap (s .soFar) (sym (station-only fits n (b .inside .below))) ∙ b .known) e in omega (arith, b .near))
+            | inl b ↦ (let z : b .y ≡ d = same-some (ap (s .soFar) (sym (station-only fits n (b .inside .below))) ∙ b .known) e in omega (arith, b .near))
             | inr b ↦ (let z : b .p ≡ f .node = same-some (b .parent) (a .parent) in omega (arith, b .long, short, ap lim z))
-            ]
+          ]

@@ -30,7 +30,6 @@ module _ {g : Network} {t : Tree} (fits : Fits g t) {src : ℕ} {s : Core} {fs :
     (sole : (c p β : ℕ) → t .parent c ≡ Some p → s .base p ≡ Some β → s .base c ≡ None → Below t v c → c ≡ v)
     (waits : (c : ℕ) → Expanded (s .base) c → ¬ On fs c → ¬ Below t v c)
     {final′ soFar′ : ℕ → Option ℕ} (call : Call s v d final′ soFar′) (h′ : Shelf) (off : Changed (s .shelf .bucket) v None (h′ .bucket)) where
-
   still : (u : ℕ) → final′ u ≡ None → (u ≢ v) × (s .final u ≡ None)
   still u h = let n : u ≢ v = λ e. some-none (call .final .at) (ap final′ (sym e) ∙ h) in (n, sym (call .final .off u n) ∙ h)
 
@@ -53,7 +52,8 @@ module _ {g : Network} {t : Tree} (fits : Fits g t) {src : ℕ} {s : Core} {fs :
   start′ (no z) (inl a) = inl (call .final .off src z ∙ a)
   start′ (no z) (inr a) = inr (call .soFar .off src z ∙ a)
 
-  early′ : {x β : ℕ} (r : Early t (s .final) (s .soFar) x β) → (s .final (r .at) ≡ Some (r .d)) ⊎ (s .soFar (r .at) ≡ Some (r .d)) → Dec (r .at ≡ v) → Early t final′ soFar′ x β
+  early′ : {x β : ℕ} (r : Early t (s .final) (s .soFar) x β) → (s .final (r .at) ≡ Some (r .d)) ⊎ (s .soFar (r .at) ≡ Some (r .d)) → Dec (r .at ≡ v)
+      → Early t final′ soFar′ x β
   early′ r (inl h) (yes z) = absurd (some-none (ap (s .final) (sym z) ∙ h) (facts .delays .found v d (call .known) .unvisited))
   early′ r (inr h) (yes z) =
       let q : r .d ≡ d = same-some (ap (s .soFar) (sym z) ∙ h) (call .known) in
@@ -70,6 +70,7 @@ module _ {g : Network} {t : Tree} (fits : Fits g t) {src : ℕ} {s : Core} {fs :
     where
       inn : {γ : ℕ} → s .base v ≡ Some γ → ⊥
       inn {γ} e = omega (arith, facts .grown .inner v γ e .above)
+
       go : Standing t s fs lim v (s .shelf .bucket v) → Standing t (called s final′ soFar′ h′) fs lim v (h′ .bucket v)
       go (loose h e) = loose h (off .at)
       go (fresh p β h b n bel) = fresh p β h b n (unknown (λ u i. ap soFar′ (station-only fits station (i .below)) ∙ call .soFar .at) (off .at))
@@ -80,23 +81,38 @@ module _ {g : Network} {t : Tree} (fits : Fits g t) {src : ℕ} {s : Core} {fs :
     where
       same : h′ .bucket c ≡ s .shelf .bucket c
       same = off .off c z
+
       go : Standing t s fs lim c (s .shelf .bucket c) → Standing t (called s final′ soFar′ h′) fs lim c (h′ .bucket c)
       go (loose h e) = loose h (same ∙ e)
-      go (fresh p β h b n bel) = fresh p β h b n (belongs-at same (belongs-keep (λ u i. call .soFar .off u (λ q. z (sole c p β h b n (rw q at (i .below))))) (λ x γ e. e) bel))
+      go (fresh p β h b n bel) =
+          fresh p β h b n (belongs-at same (belongs-keep (λ u i. call .soFar .off u (λ q. z (sole c p β h b n (rw q at (i .below))))) (λ x γ e. e) bel))
       go (visiting o e) = visiting o (same ∙ e)
       go (through e a q) = through e (λ o. a (open-before o)) (same ∙ q)
       go (waiting p β γ k h b e n o l m w sl) =
-          waiting p β γ k h b e n (record { u = o .u; inside = o .inside; unvisited = call .final .off (o .u) (λ q. waits c (record { start = γ; based = e }) n (rw q at (o .inside .below))) ∙ o .unvisited })
-            l m w (slot-at same sl)
+          waiting p β γ k h b e n (record {
+            u = o .u;
+            inside = o .inside;
+            unvisited = call .final .off (o .u) (λ q. waits c (record { start = γ; based = e }) n (rw q at (o .inside .below))) ∙ o .unvisited;
+          })
+          l m w (slot-at same sl)
 
   pub call-facts : Facts g t src (called s final′ soFar′ h′) fs lim
   call-facts =
       record {
-        delays = record { exact = λ w e h. exact′ w e h (ℕ-discrete w v); found = λ u y e. found′ u y e (ℕ-discrete u v); start = start′ (ℕ-discrete src v) (facts .delays .start) };
+        delays =
+            record {
+              exact = λ w e h. exact′ w e h (ℕ-discrete w v);
+              found = λ u y e. found′ u y e (ℕ-discrete u v);
+              start = start′ (ℕ-discrete src v) (facts .delays .start);
+            };
         grown = record {
           inner = facts .grown .inner;
-          entered = λ w e p h q. elim (ℕ-discrete w v) [ yes z ↦ home p (ap (t .parent) (sym z) ∙ q) | no z ↦ facts .grown .entered w e p (sym (call .final .off w z) ∙ h) q ];
-          upward = facts .grown .upward
+          entered =
+              λ w e p h q. elim (ℕ-discrete w v) [
+                | yes z ↦ home p (ap (t .parent) (sym z) ∙ q)
+                | no z ↦ facts .grown .entered w e p (sym (call .final .off w z) ∙ h) q
+              ];
+          upward = facts .grown .upward;
         };
         early = λ x β e. let r = facts .early x β e in early′ r (r .seen) (ℕ-discrete (r .at) v);
         limits = record {
@@ -106,11 +122,11 @@ module _ {g : Network} {t : Tree} (fits : Fits g t) {src : ℕ} {s : Core} {fs :
           nested = λ x β p e o. facts .limits .nested x β p e (open-before o);
           passed = λ x β w e b o i h. passed′ x β w e b o i h (ℕ-discrete w v);
           far = λ x β u ks e i h. facts .limits .far x β u ks e i (still u h .1);
-          room = facts .limits .room
+          room = facts .limits .room;
         };
         stands = λ c. stands′ c (ℕ-discrete c v) (facts .stands c);
         stack = facts .stack;
-        top = facts .top
+        top = facts .top;
       }
 
   pub call-looked : Looked g (s .final) (s .soFar) → LookedTo g final′ soFar′ v 0
@@ -123,10 +139,10 @@ module _ {g : Network} {t : Tree} (fits : Fits g t) {src : ℕ} {s : Core} {fs :
           record { y = k .y; known = call .soFar .off u (still u b .0) ∙ k .known; near = k .near }
 
 -- a station that take hands over
-module _ {g : Network} {t : Tree} (fits : Fits g t) {src : ℕ} {s : Core} {fs : List Frame} {lim : ℕ → ℕ} (facts : Facts g t src s fs lim) (looked : Looked g (s .final) (s .soFar))
+module _ {g : Network} {t : Tree} (fits : Fits g t) {src : ℕ} {s : Core} {fs : List Frame} {lim : ℕ → ℕ} (facts : Facts g t src s fs lim)
+    (looked : Looked g (s .final) (s .soFar))
     {f : Frame} {gs : List Frame} (ef : fs ≡ f ∷ gs) (going : Going t s f) {v d : ℕ} {h′ : Shelf} (tk : Taken t s (f .node) v h′) (n : v < t .stations)
     {final′ soFar′ : ℕ → Option ℕ} (call : Call s v d final′ soFar′) where
-
   all : Ripe fits facts (f .node) v d
   all = ripe fits facts looked ef going tk n (call .known)
 
@@ -159,19 +175,30 @@ module _ {g : Network} {t : Tree} (fits : Fits g t) {src : ℕ} {s : Core} {fs :
 -- one link more
 pub next-link : {g : Network} {t : Tree} {s : State} {v d k : ℕ} {s₁ s₂ : Core} → Visiting g t s v d k s₁ → Link g t v d k s₁ s₂ → Visiting g t s v d (suc k) s₂
 next-link vis l =
-    record { f = vis .f; fs = vis .fs; top = vis .top; going = vis .going; h′ = vis .h′; taken = vis .taken; station = vis .station; final′ = vis .final′; soFar′ = vis .soFar′; call = vis .call;
-      links = next (vis .links) l }
+    record {
+      f = vis .f;
+      fs = vis .fs;
+      top = vis .top;
+      going = vis .going;
+      h′ = vis .h′;
+      taken = vis .taken;
+      station = vis .station;
+      final′ = vis .final′;
+      soFar′ = vis .soFar′;
+      call = vis .call;
+      links = next (vis .links) l;
+    }
 
 -- in the midst of its links, and past them
 pub visiting-looking : {g : Network} {t : Tree} (fits : Fits g t) {src : ℕ} {s : State} {v d k : ℕ} {s₁ : Core} (i : Inv g t src s) (vis : Visiting g t s v d k s₁)
-  → Looking g t src v k (called (s .core) (vis .final′) (vis .soFar′) (vis .h′)) s₁ (s .frames) (i .lim)
+    → Looking g t src v k (called (s .core) (vis .final′) (vis .soFar′) (vis .h′)) s₁ (s .frames) (i .lim)
 visiting-looking fits i vis =
     let f = visit-facts fits (i .facts) (i .looked) (vis .top) (vis .going) (vis .taken) (vis .station) (vis .call) in
     let l = visit-looked fits (i .facts) (i .looked) (vis .top) (vis .going) (vis .taken) (vis .station) (vis .call) in
     links-looking fits f (vis .call .final .at) l (vis .links)
 
 pub visit-step : {g : Network} {t : Tree} (fits : Fits g t) {src : ℕ} {s : State} {v d : ℕ} {s₁ : Core} → Inv g t src s → Visiting g t s v d (length (g .rows)) s₁
-  → Inv g t src (record { core = s₁; frames = s .frames })
+    → Inv g t src (record { core = s₁; frames = s .frames })
 visit-step fits i vis =
     let z = visiting-looking fits i vis in
     record { lim = i .lim; facts = z .facts; looked = λ w e u j a b l. z .looked w e u j a b l (λ q. l .listed); over = λ e. absurd (cons-nil (vis .top) e) }

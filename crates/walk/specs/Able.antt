@@ -8,7 +8,7 @@ use Rattle.network.specs.Network.{Network, Hop, delay}
 use Rattle.tree.specs.Tree.{Tree, Inner, width}
 use Rattle.walk.specs.declared.frame.Frame.{Frame}
 use Rattle.walk.specs.State.{Core, Changed}
-use Rattle.walk.specs.Rules.{Lowest, Nothing, Front}
+use Rattle.walk.specs.Rules.{Lowest, Nothing, Front, Links}
 use Rattle.walk.specs.Steps.{Open, Now}
 
 -- the parent of c is expanded, and the least of c is not below its base: so it can be told where c belongs
@@ -30,7 +30,12 @@ pub record Apt (g : Network) (t : Tree) (s : Core) (v d k : ℕ) : Type 0 where
   pub few : s .shelf .puts < 65535
   pub shut : (u : ℕ) → u < t .stations → s .base u ≡ None
   pub front : (u : ℕ) → Hop g k v u → s .final u ≡ None → Fronted t (s .base) u
-  pub ready : (u c : ℕ) (soFar′ : ℕ → Option ℕ) → Hop g k v u → s .final u ≡ None → Changed (s .soFar) u (Some (d + delay g k)) soFar′ → Front t (s .base) u c → Ready t soFar′ (s .base) c
+  pub ready : (u c : ℕ) (soFar′ : ℕ → Option ℕ) → Hop g k v u → s .final u ≡ None
+      → Changed (s .soFar) u (Some (d + delay g k)) soFar′ → Front t (s .base) u c → Ready t soFar′ (s .base) c
+
+-- each link of v can be followed in its turn
+abbrev pub Safe : Network → Tree → Core → ℕ → ℕ → Type 0
+Safe g t s v d = (k : ℕ) (s₁ : Core) → Links g t v d s k s₁ → Apt g t s₁ v d k
 
 -- c stands in the bucket k of x, at which the counter of x is
 pub record Due-now (t : Tree) (s : Core) (x c : ℕ) : Type 0 where

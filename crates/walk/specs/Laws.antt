@@ -29,13 +29,13 @@ in-service g = total (λ k. cond (getD (g .service) k false) 1 0) (length (g .ro
 abbrev pub most-moves : Network → Tree → ℕ
 most-moves g t = 8 * t .stations + in-service g
 
-abbrev pub one : Option ℕ → ℕ
-one None = 0
-one (Some d) = 1
+abbrev pub one-if : Option ℕ → ℕ
+one-if None = 0
+one-if (Some d) = 1
 
 -- how many stations are visited
 abbrev pub reached : Tree → State → ℕ
-reached t s = total (λ v. one (s .core .final v)) (t .stations)
+reached t s = total (λ v. one-if (s .core .final v)) (t .stations)
 
 -- a run: a walk that has come to its end
 pub record Run (g : Network) (t : Tree) (source : ℕ) (s : State) : Type 0 where
@@ -63,7 +63,8 @@ Every-walk-moves-little = (g : Network) (t : Tree) (source k : ℕ) (s : State) 
 
 -- and no fewer than it has visited stations, where those are two or more
 abbrev pub Every-walk-moves-enough : Type 0
-Every-walk-moves-enough = (g : Network) (t : Tree) (source k : ℕ) (s : State) → Given g t source → Walk g t source k s → 2 ≤ reached t s → reached t s ≤ s .core .shelf .puts
+Every-walk-moves-enough = (g : Network) (t : Tree) (source k : ℕ) (s : State) → Given g t source → Walk g t source k s
+    → 2 ≤ reached t s → reached t s ≤ s .core .shelf .puts
 
 -- no walk is endless: it has no more steps than this
 abbrev pub Every-walk-ends : Type 0
@@ -91,10 +92,12 @@ pub record Next-by (g : Network) (t : Tree) (s : State) (c : ℕ) : Type 0 where
 -- a walk is at its end or has a next step, and whatever take hands over, it goes on with that: no put in between is refused
 pub record Goes-on (g : Network) (t : Tree) (s : State) : Type 0 where
   pub here : (s .frames ≡ []) ⊎ Next g t s
-  pub taking : (f : Frame) (fs : List Frame) (c : ℕ) (h : Shelf) → s .frames ≡ f ∷ fs → Going t (s .core) f → Taken t (s .core) (f .node) c h → Next-by g t s c
+  pub taking : (f : Frame) (fs : List Frame) (c : ℕ) (h : Shelf) → s .frames ≡ f ∷ fs
+      → Going t (s .core) f → Taken t (s .core) (f .node) c h → Next-by g t s c
 
 abbrev pub Every-walk-goes-on : Type 0
-Every-walk-goes-on = (g : Network) (t : Tree) (source k : ℕ) (s : State) → Given g t source → most-moves g t < 65535 → Walk g t source k s → Goes-on g t s
+Every-walk-goes-on = (g : Network) (t : Tree) (source k : ℕ) (s : State) → Given g t source → most-moves g t < 65535
+    → Walk g t source k s → Goes-on g t s
 
 pub record Runs-to (g : Network) (t : Tree) (source : ℕ) : Type 0 where
   pub state : State
@@ -104,7 +107,8 @@ pub record Runs-to (g : Network) (t : Tree) (source : ℕ) : Type 0 where
 abbrev pub Every-source-has-a-run : Type 0
 Every-source-has-a-run = (g : Network) (t : Tree) (source : ℕ) → Given g t source → most-moves g t < 65535 → Runs-to g t source
 
--- the walk has no freedom but what take hands over: it starts in one way, and two steps from a state that take the same item, or none, lead to the same state
+-- the walk has no freedom but what take hands over: it starts in one way, and two steps from a state that take the same item,
+-- or none, lead to the same state
 pub record One-way (g : Network) (t : Tree) (source : ℕ) : Type 0 where
   pub start : (s s′ s₁ s₂ : State) → Begin g t source s s₁ → Begin g t source s′ s₂ → s₁ ≡ s₂
   pub step : (k : ℕ) (s s₁ s₂ : State) → Walk g t source k s → (p : Step g t s s₁) (q : Step g t s s₂) → item-of p ≡ item-of q → s₁ ≡ s₂
@@ -118,4 +122,5 @@ pub record Relies (g : Network) (t : Tree) (s : State) : Type 0 where
   pub apt : (v d k : ℕ) (s₁ : Core) → Visiting g t s v d k s₁ → Apt g t s₁ v d k
 
 abbrev pub Every-walk-is-able : Type 0
-Every-walk-is-able = (g : Network) (t : Tree) (source k : ℕ) (s : State) → Given g t source → most-moves g t < 65535 → Walk g t source k s → Relies g t s
+Every-walk-is-able = (g : Network) (t : Tree) (source k : ℕ) (s : State) → Given g t source → most-moves g t < 65535
+    → Walk g t source k s → Relies g t s

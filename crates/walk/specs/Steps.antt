@@ -85,8 +85,10 @@ pub data Step (g : Network) (t : Tree) (s : State) : State → Type 0 where
       → Step g t s (entered s c (coarse t c (f .node) (s .core .count c)) (s .core .base) (s .core .count) h)
   -- rule 4: the bucket is empty, and the counter rises by one
   rise : (f : Frame) (fs : List Frame) (k : ℕ) (count′ : ℕ → ℕ)
-      → s .frames ≡ f ∷ fs → Going t (s .core) f → Now (s .core) (f .node) k → ((c : ℕ) → s .core .shelf .bucket c ≢ Some (t .first (f .node) + k))
-      → Changed (s .core .count) (f .node) (suc (s .core .count (f .node))) count′ → Step g t s (record { core = counted (s .core) count′; frames = s .frames })
+      → s .frames ≡ f ∷ fs → Going t (s .core) f → Now (s .core) (f .node) k
+      → ((c : ℕ) → s .core .shelf .bucket c ≢ Some (t .first (f .node) + k))
+      → Changed (s .core .count) (f .node) (suc (s .core .count (f .node))) count′
+      → Step g t s (record { core = counted (s .core) count′; frames = s .frames })
   -- rules 5 and 4: the visit of a child ends, and it is put again by rule 3
   leave : (f : Frame) (fs : List Frame) (p : ℕ) (b : Option ℕ) (h′ : Shelf)
       → s .frames ≡ f ∷ fs → Ended t (s .core) f → t .parent (f .node) ≡ Some p
@@ -108,7 +110,8 @@ pub record Blank (source : ℕ) (s : State) : Type 0 where
 pub data Begin (g : Network) (t : Tree) (source : ℕ) (s : State) : State → Type 0 where
   -- it is the source itself
   alone : (final′ soFar′ : ℕ → Option ℕ) (s₁ : Core) → Blank source s → t .parent source ≡ None → Call (s .core) source 0 final′ soFar′
-      → Links g t source 0 (called (s .core) final′ soFar′ (s .core .shelf)) (length (g .rows)) s₁ → Begin g t source s (record { core = s₁; frames = s .frames })
+      → Links g t source 0 (called (s .core) final′ soFar′ (s .core .shelf)) (length (g .rows)) s₁
+      → Begin g t source s (record { core = s₁; frames = s .frames })
   -- it is an inner node
   root : (r d : ℕ) (base′ : ℕ → Option ℕ) (count′ : ℕ → ℕ) (h′ : Shelf) → Blank source s → t .stations ≤ r → Below t source r → t .parent r ≡ None
       → Expand t (s .core) r d (s .core .shelf) base′ count′ h′ → Begin g t source s (entered s r 0 base′ count′ h′)
