@@ -1,5 +1,13 @@
+pub mod Common
+pub mod Fit
+pub mod Forest
+pub mod Growing
+pub mod Holding
 pub mod Laws-of-routes
+pub mod Marks
 pub mod Nodes
+pub mod Ranks
 pub mod Routes
+pub mod Sizes
 pub mod Totals
 pub mod Words

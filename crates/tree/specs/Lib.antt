@@ -1,2 +1,4 @@
+pub mod Components
+pub mod Joining
 pub mod Totals
 pub mod Tree
