@@ -92,4 +92,4 @@ module _ {g : Network} {t : Tree} (c : Components g t) where
         where
           higher : (m : Common s b (p .0)) → Dec (t .level x < t .level (m .node)) → t .level x < t .level (m .node)
           higher m (yes l) = l
-          higher m (no l) = let k : t .level (m .node) ≤ t .level x = omega arith in absurd (n (share k (m .one) hs b (m .other)))
+          higher m (no l) = let k : t .level (m .node) ≤ t .level x = omega arith in absurd (n (share t (m .node) x k (m .one) hs b (m .other)))

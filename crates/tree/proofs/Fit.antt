@@ -102,7 +102,7 @@ module _ {g : Network} {t : Tree} (c : Components g t) where
   -- the joining links join the stations of a node, so these are no further apart than its spread
   pub near : (x a b : ℕ) → x < t .nodes → Holds g t x a → Holds g t x b → Near g t x a b
   near x a b n ha hb =
-      let f = forest {g} (c .proper) (t .level x) in
+      let f = forest {g = g} (c .proper) (t .level x) in
       let s = c .spread x n in
       let w = by-joining (f .grouped) (joined-transitive (joined-symmetric ha) hb) in
       let v = tour-of (w .route) in

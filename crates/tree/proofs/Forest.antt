@@ -131,7 +131,7 @@ module _ {g : Network} (proper : Proper g) where
   pub forest : (i : ℕ) → Forest g (Small g i)
   forest i = forest-skipped (levels i) (λ j. elim [ inl s ↦ s | inr s ↦ absurd (omega (arith, s .1)) ]) (λ j a b h s. inl s)
 
-pub few-joining : (g : Network) (proper : Proper g) (i : ℕ) → 1 ≤ g .stations → suc (length (forest {g} proper i .joins)) ≤ g .stations
+pub few-joining : (g : Network) (proper : Proper g) (i : ℕ) → 1 ≤ g .stations → suc (length (forest {g = g} proper i .joins)) ≤ g .stations
 few-joining g proper i h =
-    let f = forest {g} proper i in
+    let f = forest {g = g} proper i in
     omega (arith, f .count, own-some (f .label) (f .label 0) (g .stations) (f .self 0) (f .below 0 h))

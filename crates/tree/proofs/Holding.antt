@@ -14,8 +14,8 @@ use Rattle.tree.specs.Components.{Components, Forms, Holds, Within, Above, Par
 use Rattle.tree.specs.Tree.{Tree, Below, self, up, In, Inner}
 
 -- of two nodes that share a station, the one of no higher level is within the other
-pub share : {g : Network} {t : Tree} {x y u : ℕ} → t .level x ≤ t .level y → Holds g t x u → Holds g t y u → Within g t x y
-share l hx hy v hv = joined-transitive hy (under-grows l (joined-transitive (joined-symmetric hx) hv))
+pub share : {g : Network} {u : ℕ} (t : Tree) (x y : ℕ) → t .level x ≤ t .level y → Holds g t x u → Holds g t y u → Within g t x y
+share t x y l hx hy v hv = joined-transitive hy (under-grows l (joined-transitive (joined-symmetric hx) hv))
 
 pub low : (g : Network) (t : Tree) (x : ℕ) → Holds g t x (t .lowest x)
 low g t x = joined-self (t .lowest x)
@@ -26,7 +26,7 @@ module _ {g : Network} {t : Tree} (c : Components g t) where
     where
       go : Dec (t .level x < t .level y) → t .level x < t .level y
       go (yes l) = l
-      go (no l) = let m : t .level y ≤ t .level x = omega arith in absurd (a .properly (share m (a .holds (t .lowest x) (low g t x)) (low g t x)))
+      go (no l) = let m : t .level y ≤ t .level x = omega arith in absurd (a .properly (share t y x m (a .holds (t .lowest x) (low g t x)) (low g t x)))
 
   pub not-station : {x : ℕ} → x < t .nodes → 1 ≤ t .level x → Inner t x
   not-station {x} h l =
@@ -41,7 +41,7 @@ module _ {g : Network} {t : Tree} (c : Components g t) where
       let m : t .level x ≤ t .level y = omega arith in
       record {
         node = i .below;
-        holds = share m hx hy;
+        holds = share t x y m hx hy;
         properly = λ w. omega (arith, f .joint .smallest (t .level x) (joined-transitive (joined-symmetric (w (t .lowest y) (low g t y))) (w (f .other) (f .joint .joined))));
       }
 
@@ -101,7 +101,7 @@ module _ {g : Network} {t : Tree} (c : Components g t) where
 
       lowest : t .lowest x ≡ t .lowest y
       lowest =
-          omega (arith, lowest-least nx (share ge hy hx (t .lowest y) (low g t y)), lowest-least ny (share le hx hy (t .lowest x) (low g t x)))
+          omega (arith, lowest-least nx (share t y x ge hy hx (t .lowest y) (low g t y)), lowest-least ny (share t x y le hx hy (t .lowest x) (low g t x)))
 
       pick : Inner t x → Inner t y → Dec (x < y) → Dec (y < x) → x ≡ y
       pick ix iy (yes p) d = elim (c .order x y ix iy p) [ inl h ↦ absurd (omega arith) | inr h ↦ absurd (omega (arith, h .1, lowest)) ]
