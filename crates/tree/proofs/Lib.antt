@@ -1,4 +1,5 @@
 pub mod Common
+pub mod Counts
 pub mod Fit
 pub mod Forest
 pub mod Growing
@@ -9,5 +10,6 @@ pub mod Nodes
 pub mod Ranks
 pub mod Routes
 pub mod Sizes
+pub mod Sums
 pub mod Totals
 pub mod Words
