@@ -1,12 +1,15 @@
+pub mod Agree
 pub mod Common
 pub mod Counts
 pub mod Fit
 pub mod Forest
 pub mod Growing
 pub mod Holding
+pub mod Joints
 pub mod Laws-of-routes
 pub mod Marks
 pub mod Nodes
+pub mod Places
 pub mod Ranks
 pub mod Routes
 pub mod Sizes
