@@ -94,7 +94,7 @@ module _ {g : Network} {t t′ : Tree} (c : Components g t) (c′ : Components g
           }
       go (yes d) (no s) f =
           both (no-later c c′ x (record { above = omega arith; below = omega arith }) (omega arith) (λ y k m. f y (omega arith)))
-            (no-later c′ c x (record { above = omega (arith, e); below = omega arith }) (omega arith) (λ y k m. swap (f y (omega arith))))
+          (no-later c′ c x (record { above = omega (arith, e); below = omega arith }) (omega arith) (λ y k m. swap (f y (omega arith))))
 
   -- t has no more nodes than t′
   no-more : t .nodes ≤ t′ .nodes
@@ -219,13 +219,13 @@ module _ {g : Network} {t t′ : Tree} (c : Components g t) (c′ : Components g
   children-same : (x : ℕ) → t′ .children x ≡ t .children x
   children-same x =
       rising-same t t′ (t .children x) (t′ .children x) (λ d a. same c c′ d (c .parent d x (c .children x d .0 a) .node) .lowest) (c .rising x) (c′ .rising x)
-        (λ d a. c′ .children x d .1 (parent-all d ∙ c .children x d .0 a)) (λ d a. c .children x d .1 (sym (parent-all d) ∙ c′ .children x d .0 a))
+      (λ d a. c′ .children x d .1 (parent-all d ∙ c .children x d .0 a)) (λ d a. c .children x d .1 (sym (parent-all d) ∙ c′ .children x d .0 a))
 
   roots-same : c′ .roots ≡ c .roots
   roots-same =
       rising-same t t′ (c .roots) (c′ .roots) (λ d a. same c c′ d (c .tops d .0 a .0) .lowest) (c .rising-roots) (c′ .rising-roots)
-        (λ d a. let z = c .tops d .0 a in c′ .tops d .1 (omega (arith, z .0, nodes-same c c′), parent-all d ∙ z .1))
-        (λ d a. let z = c′ .tops d .0 a in c .tops d .1 (omega (arith, z .0, nodes-same c c′), sym (parent-all d) ∙ z .1))
+      (λ d a. let z = c .tops d .0 a in c′ .tops d .1 (omega (arith, z .0, nodes-same c c′), parent-all d ∙ z .1))
+      (λ d a. let z = c′ .tops d .0 a in c .tops d .1 (omega (arith, z .0, nodes-same c c′), sym (parent-all d) ∙ z .1))
 
   spread-same : (x : ℕ) → x < t .nodes → t′ .spread x ≡ t .spread x
   spread-same x h = omega (arith, spread-most c c′ x h, spread-most c′ c x (omega (arith, nodes-same c c′)))
@@ -240,15 +240,15 @@ module _ {g : Network} {t t′ : Tree} (c : Components g t) (c′ : Components g
       go (yes s) = c′ .no-buckets x (omega (arith, e)) ∙ sym (c .no-buckets x s)
       go (no s) =
           c′ .buckets x (record { above = omega (arith, e); below = omega (arith, nodes-same c c′) })
-            ∙ ap (λ z. rounded-up z (width t′ x) + 1) (spread-same x h)
-            ∙ ap (λ i. rounded-up (t .spread x) (2 ^ (i - 1)) + 1) (same c c′ x h .level)
-            ∙ sym (c .buckets x (record { above = omega arith; below = h }))
+          ∙ ap (λ z. rounded-up z (width t′ x) + 1) (spread-same x h)
+          ∙ ap (λ i. rounded-up (t .spread x) (2 ^ (i - 1)) + 1) (same c c′ x h .level)
+          ∙ sym (c .buckets x (record { above = omega arith; below = h }))
 
   first-same : (x : ℕ) → Inner t x → t′ .first x ≡ t .first x
   first-same x i =
       c′ .numbered x (record { above = omega (arith, i .above, stations-same c c′); below = omega (arith, i .below, nodes-same c c′) })
-        ∙ total-same (t .buckets) (t′ .buckets) x (λ y l. buckets-same y (omega (arith, i .below)))
-        ∙ sym (c .numbered x i)
+      ∙ total-same (t .buckets) (t′ .buckets) x (λ y l. buckets-same y (omega (arith, i .below)))
+      ∙ sym (c .numbered x i)
 
   size-below : (n x : ℕ) → x < n → x < t .nodes → t .high x + t′ .low x ≡ t′ .high x + t .low x
   size-below zero x l h = absurd (omega arith)

@@ -12,15 +12,14 @@ use lib.ListN.{length}
 use lib.Pow.{pow-pos, pow-mono}
 use Rattle.std.specs.declared.option.Option.{Option}
 use Rattle.std.specs.declared.option.Option.the-variants.{Some, None}
-use Rattle.network.specs.Levels.{IsLevel}
-use Rattle.network.specs.Lists.{Among, Inside, Distinct}
-use Rattle.network.specs.Network.{Network, Hop, Joined, Small, Under, row, delay, sum}
-use Rattle.network.proofs.Routes.{flip, join-sum, hop-stations}
-use Rattle.network.proofs.Levels.{joined-self, joined-link, joined-symmetric, joined-transitive, joined-through, level-of-small, small-of-level, each-map}
+use Rattle.network.specs.Lists.{Among, Distinct}
+use Rattle.network.specs.Network.{Network, Under, row, delay, sum}
+use Rattle.network.proofs.Routes.{join-sum}
+use Rattle.network.proofs.Levels.{joined-self, joined-symmetric, joined-transitive, each-map}
 use Rattle.network.proofs.Lists.{once, among-join}
 use Rattle.tree.specs.Components as C
 use Rattle.tree.specs.Components.{Components, Holds, Spread, rounded-up}
-use Rattle.tree.specs.Joining.{Before, Joining}
+use Rattle.tree.specs.Joining.{Joining}
 use Rattle.tree.specs.Totals.{total}
 use Rattle.tree.specs.Tree.{Tree, Below, In, Inner, Sized, width, buckets-in-all}
 use Rattle.tree.proofs.Words.{same-some}
@@ -28,10 +27,10 @@ use Rattle.tree.proofs.Nodes.{Through, through, tell}
 use Rattle.tree.proofs.Totals.{total-longer}
 use Rattle.tree.proofs.Sums.{tally, tally-below, tally-join, length-join, among-left, among-right, distinct-join, gather}
 use Rattle.tree.proofs.Sizes.{rounded-covers, rounded-least, half-covers, double}
-use Rattle.tree.proofs.Ranks.{level-of, hop-of}
+use Rattle.tree.proofs.Ranks.{joining-small, hop-of}
 use Rattle.tree.proofs.Growing.{by-joining}
 use Rattle.tree.proofs.Forest.{forest, few-joining}
-use Rattle.tree.proofs.Holding.{above-level, above-inner, positive, same-node, holds-in, in-holds, station-one}
+use Rattle.tree.proofs.Holding.{above-level, positive, same-node, holds-in, in-holds, station-one}
 use Rattle.tree.proofs.Fit.{fits, cut, stay-inside, rising-once}
 
 -- the links that take w or more
@@ -70,24 +69,6 @@ no-links g [] f = refl
 no-links g (k ∷ ks) f = absurd (f k (inl refl))
 
 module _ {g : Network} {t : Tree} (c : Components g t) where
-  -- a joining link takes less than 2 ^ i where links under 2 ^ i join its ends
-  joining-small : (i k : ℕ) → Joining g k → Under g i (row g k .from) (row g k .to) → delay g k < 2 ^ i
-  joining-small i k l u = go (decLt (delay g k) (2 ^ i))
-    where
-      own : (n : ℕ) × IsLevel (delay g k) n
-      own = level-of (delay g k) (c .proper k (l .listed) .2)
-
-      before : ¬ (delay g k < 2 ^ i) → (j a b : ℕ) → Hop g j a b → Small g i j → Before g j k
-      before n j a b h s =
-          let v = level-of (delay g j) (c .proper j (h .listed) .2) in
-          let p : v .0 ≤ i = level-of-small {g = g} (v .1) s in
-          let q : i < own .0 = elim (decLe (own .0) i) [ yes m ↦ absurd (n (small-of-level {g = g} {k = k} (own .1) m .under)) | no m ↦ omega arith ] in
-          record { level = v .0; other = own .0; first = v .1; second = own .1; order = inl (omega arith) }
-
-      go : Dec (delay g k < 2 ^ i) → delay g k < 2 ^ i
-      go (yes h) = h
-      go (no n) = absurd (l .alone (joined-through (λ j a b h s. joined-link h (before n j a b h s)) u))
-
   abbrev half : ℕ → ℕ
   half x = t .buckets x / 2
 
@@ -110,8 +91,14 @@ module _ {g : Network} {t : Tree} (c : Components g t) where
           let q = rounded-up (t .spread d) (width t d) in
           let m : t .level d ≤ t .level x - 1 = omega (arith, above-level c (c .parent d x e .above)) in
           let w : 2 * width t d ≤ width t x = omega (arith, double (t .level d) (positive c d i), pow-mono m) in
-          omega (arith, half-covers (t .spread d) (width t d) q (rounded-covers (t .spread d) (width t d) (pow-pos (t .level d - 1))), ap (λ z. (z / 2) * (2 * width t d)) (c .buckets d i),
-            mul-le-mul-right (half d) w, mul-comm (half d) (2 * width t d), mul-comm (half d) (width t x))
+          omega (
+            arith,
+            half-covers (t .spread d) (width t d) q (rounded-covers (t .spread d) (width t d) (pow-pos (t .level d - 1))),
+            ap (λ z. (z / 2) * (2 * width t d)) (c .buckets d i),
+            mul-le-mul-right (half d) w,
+            mul-comm (half d) (2 * width t d),
+            mul-comm (half d) (width t x),
+          )
 
   -- the joining links inside the children ds of x
   record Kids (ds : List ℕ) (x : ℕ) : Type 0 where
@@ -170,7 +157,7 @@ module _ {g : Network} {t : Tree} (c : Components g t) where
       y = kids x (t .children x) (λ d a. c .children x d .0 a)
 
       low : (k : ℕ) → Among k (s .links) → delay g k < 2 ^ t .level x
-      low k a = let j = s .each k .0 a in joining-small (t .level x) k (j .joining) (joined-transitive (joined-symmetric (j .from)) (j .to))
+      low k a = let j = s .each k .0 a in joining-small (c .proper) (t .level x) k (j .joining) (joined-transitive (joined-symmetric (j .from)) (j .to)) .under
 
       -- the links shorter than the width do not join all of x
       one : (ls : List ℕ) → o .links ≡ ls → 1 ≤ length (o .links)
@@ -205,11 +192,11 @@ module _ {g : Network} {t : Tree} (c : Components g t) where
               pick : Dec (Below t (row g k .to) (d .child)) → Among k (y .links)
               pick (yes b) =
                   y .every (d .child) k (c .children x (d .child) .1 (d .parent))
-                    (record {
-                      joining = j .joining;
-                      from = in-holds c (record { station = p .station; below = d .below });
-                      to = in-holds c (record { station = q .station; below = b });
-                    })
+                  (record {
+                    joining = j .joining;
+                    from = in-holds c (record { station = p .station; below = d .below });
+                    to = in-holds c (record { station = q .station; below = b });
+                  })
               pick (no b) = absurd (omega (arith, cut c (d .child) x k (row g k .from) (row g k .to) (d .parent) (d .below) (hop-of (j .joining)) b))
 
       twice : (m : ℕ) → m * 2 ^ t .level x ≡ (2 * m) * width t x
@@ -227,7 +214,7 @@ module _ {g : Network} {t : Tree} (c : Components g t) where
           let all = once g (s .links) (y .links ++ o .links) (s .once) covered .0 in
           let short = short-sum g (2 ^ t .level x) (o .links) (λ k a. low k (o .among k a .0)) in
           rounded-least (t .spread x) (width t x) (tally half (t .children x) + 2 * length (o .links)) (pow-pos (t .level x - 1))
-            (omega (arith, all, short, s .total, join-sum g (y .links) (o .links), y .few, twice (length (o .links)), add-mul (tally half (t .children x)) (2 * length (o .links)) (width t x)))
+          (omega (arith, all, short, s .total, join-sum g (y .links) (o .links), y .few, twice (length (o .links)), add-mul (tally half (t .children x)) (2 * length (o .links)) (width t x)))
 
   -- the own links of the nodes below n
   record Owned (n k : ℕ) : Type 0 where
@@ -253,7 +240,7 @@ module _ {g : Network} {t : Tree} (c : Components g t) where
   one-owner : {x y k : ℕ} → Inner t x → Inner t y → Owns x k → Owns y k → x ≡ y
   one-owner {x} {y} {k} i j p q =
       let e : t .level x ≡ t .level y =
-        omega (arith, level-most (t .level x) (t .level y) (delay g k) (positive c y j) (q .wide) (p .small), level-most (t .level y) (t .level x) (delay g k) (positive c x i) (p .wide) (q .small)) in
+      omega (arith, level-most (t .level x) (t .level y) (delay g k) (positive c y j) (q .wide) (p .small), level-most (t .level y) (t .level x) (delay g k) (positive c x i) (p .wide) (q .small)) in
       same-node c (i .below) (j .below) e (p .from) (q .from)
 
   upto : (n : ℕ) → n ≤ t .nodes → Upto n
@@ -310,6 +297,6 @@ module _ {g : Network} {t : Tree} (c : Components g t) where
       fewer : length (u .links) ≤ length (forest {g = g} (c .proper) top .joins)
       fewer =
           once g (u .links) (forest {g = g} (c .proper) top .joins) (u .once)
-            (λ k a.
-              let z = u .each k a in
-              forest {g = g} (c .proper) top .grouped .every k (record { under = omega (arith, z .owns .small, pow-mono (level-below (z .node) (t .nodes) (z .below))) }) (z .owns .joining)) .1
+          (λ k a.
+          let z = u .each k a in
+          forest {g = g} (c .proper) top .grouped .every k (record { under = omega (arith, z .owns .small, pow-mono (level-below (z .node) (t .nodes) (z .below))) }) (z .owns .joining)) .1

@@ -121,7 +121,7 @@ module _ {g : Network} (proper : Proper g) where
   next-level : (i : ℕ) → Forest g (Past g i (length (g .rows))) → Forest g (Past g (suc i) 0)
   next-level i f =
       forest-skipped f (λ j. elim [ inl s ↦ (let l : i ≤ suc i = omega arith in inl (small-grows l j s)) | inr s ↦ inl (s .0) ])
-        (λ j a b h. elim [ inl s ↦ inr (s, h .listed) | inr s ↦ absurd (omega (arith, s .1)) ])
+      (λ j a b h. elim [ inl s ↦ inr (s, h .listed) | inr s ↦ absurd (omega (arith, s .1)) ])
 
   levels : (i : ℕ) → Forest g (Past g i 0)
   levels zero = start

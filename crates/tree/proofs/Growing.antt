@@ -47,7 +47,6 @@ module _ {g : Network} {seen : ℕ → Type 0} {label : ℕ → ℕ} {joins : Li
   -- the link k, from a to b, is looked at next: those looked at are just those that are ranked before it
   module _ {seen′ : ℕ → Type 0} {k a b : ℕ} (more : (j : ℕ) → seen j → seen′ j) (only : (j : ℕ) → seen′ j → seen j ⊎ (j ≡ k))
       (past : (j : ℕ) → Joining g j → seen j → Before g j k) (before : (j : ℕ) → Before g j k → seen j) (over : Hop g k a b) where
-
     -- a link inside a group is not joining
     pub inside : label a ≡ label b → Grouped g seen′ label joins
     inside e =

@@ -7,6 +7,7 @@ pub mod Growing
 pub mod Holding
 pub mod Joints
 pub mod Laws-of-routes
+pub mod Making
 pub mod Marks
 pub mod Nodes
 pub mod Places

@@ -12,6 +12,9 @@ pub record Merged (label : ℕ → ℕ) (hi lo : ℕ) (label′ : ℕ → ℕ) :
   pub at : (u : ℕ) → label u ≡ hi → label′ u ≡ lo
   pub off : (u : ℕ) → label u ≢ hi → label′ u ≡ label u
 
+pub stays : {label label′ : ℕ → ℕ} {hi lo s : ℕ} → Merged label hi lo label′ → (u : ℕ) → s ≢ hi → label u ≡ s → label′ u ≡ s
+stays m u n h = m .off u (λ e. n (sym h ∙ e)) ∙ h
+
 pick : {A : Type 0} → Dec A → ℕ → ℕ → ℕ
 pick (yes e) a b = a
 pick (no n) a b = b
@@ -58,11 +61,8 @@ module _ {label label′ : ℕ → ℕ} {hi lo : ℕ} (m : Merged label hi lo la
   pub merged-self : (u : ℕ) → label′ (label′ u) ≡ label′ u
   merged-self u = go (ℕ-discrete (label u) hi)
     where
-      stays : label′ lo ≡ lo
-      stays = m .off lo (λ e. apart (sym low ∙ e)) ∙ low
-
       go : Dec (label u ≡ hi) → label′ (label′ u) ≡ label′ u
-      go (yes e) = let at = m .at u e in ap label′ at ∙ stays ∙ sym at
+      go (yes e) = let at = m .at u e in ap label′ at ∙ stays m lo apart low ∙ sym at
       go (no n) = let off = m .off u n in ap label′ off ∙ m .off (label u) (λ e. n (sym (self u) ∙ e)) ∙ self u ∙ sym off
 
   -- there is one label less

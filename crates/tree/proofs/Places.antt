@@ -9,10 +9,10 @@ use Rattle.std.specs.declared.option.Option.{Option}
 use Rattle.std.specs.declared.option.Option.the-variants.{Some, None}
 use Rattle.network.specs.Lists.{Among}
 use Rattle.network.specs.Network.{Network}
-use Rattle.tree.specs.Components.{Components, Laid}
+use Rattle.tree.specs.Components.{Components, Laid, Rising}
 use Rattle.tree.specs.Tree.{Tree, Below, self, up, In, Inner, Seat, Runs}
 use Rattle.tree.proofs.Nodes.{in-parent, in-inner, station-only, rooted, Through, Rooted}
-use Rattle.tree.proofs.Holding.{low, holds-in, below-node, above-later}
+use Rattle.tree.proofs.Holding.{low, holds-in, in-holds, below-node, above-later, lowest-least}
 use Rattle.tree.proofs.Fit.{fits}
 
 -- p is a place of the run of x
@@ -53,6 +53,17 @@ module _ (t : Tree) where
   laid-one (c ∷ cs) p q r d e l ok (inr a) (inl b) i j =
       absurd (omega (arith, laid-within cs (suc (t .high c)) q (l .1) (λ d a. ok d (inr a)) d a .0, ap (t .high) b, j .to, i .from))
   laid-one (c ∷ cs) p q r d e l ok (inr a) (inr b) i j = laid-one cs (suc (t .high c)) q r d e (l .1) (λ d a. ok d (inr a)) a b i j
+
+  -- and in the order of their lowest stations
+  pub laid-order :
+      (cs : List ℕ) (p q d e : ℕ) → Laid t cs p q → Rising t cs → ((d : ℕ) → Among d cs → t .low d ≤ t .high d) → Among d cs → Among e cs
+      → t .lowest d < t .lowest e → t .high d < t .low e
+  laid-order [] p q d e l r ok a b h = elim a [ ]
+  laid-order (c ∷ cs) p q d e l r ok (inl a) (inl b) h = absurd (omega (arith, ap (t .lowest) a, ap (t .lowest) b))
+  laid-order (c ∷ cs) p q d e l r ok (inl a) (inr b) h =
+      omega (arith, laid-within cs (suc (t .high c)) q (l .1) (λ d a. ok d (inr a)) e b .0, ap (t .high) a)
+  laid-order (c ∷ cs) p q d e l r ok (inr a) (inl b) h = absurd (omega (arith, r .0 d a, ap (t .lowest) b))
+  laid-order (c ∷ cs) p q d e l r ok (inr a) (inr b) h = laid-order cs (suc (t .high c)) q d e (l .1) (r .1) (λ d a. ok d (inr a)) a b h
 
 module _ {g : Network} {t : Tree} (c : Components g t) where
   pub child-earlier : {x d : ℕ} → Among d (t .children x) → d < x
@@ -123,8 +134,8 @@ module _ {g : Network} {t : Tree} (c : Components g t) where
               let iu : In t u (p .child) = record { station = i .station; below = p .below } in
               let iw : In t w (q .child) = record { station = j .station; below = q .below } in
               let z : p .child ≡ q .child =
-                laid-one t (t .children x) (t .low x) (suc (t .high x)) (t .place u) (p .child) (q .child) (c .laid x (fits c .inner (p .child) x (p .parent))) (filled-child x) a b
-                  (on-run iu) (subst (On t (q .child)) (sym e) (on-run iw)) in
+              laid-one t (t .children x) (t .low x) (suc (t .high x)) (t .place u) (p .child) (q .child) (c .laid x (fits c .inner (p .child) x (p .parent))) (filled-child x) a b
+              (on-run iu) (subst (On t (q .child)) (sym e) (on-run iw)) in
               later (p .child) a iu (subst (In t w) (sym z) iw)
 
   seats-apart : (u w : ℕ) → u < t .stations → w < t .stations → t .place u ≡ t .place w → u ≡ w
@@ -138,8 +149,8 @@ module _ {g : Network} {t : Tree} (c : Components g t) where
           let iu : In t u (p .root) = record { station = hu; below = p .below } in
           let iw : In t w (q .root) = record { station = hw; below = q .below } in
           let z : p .root ≡ q .root =
-            laid-one t (c .roots) 0 (t .stations) (t .place u) (p .root) (q .root) (c .laid-roots) filled-root (listed hu p) (listed hw q)
-              (on-run iu) (subst (On t (q .root)) (sym e) (on-run iw)) in
+          laid-one t (c .roots) 0 (t .stations) (t .place u) (p .root) (q .root) (c .laid-roots) filled-root (listed hu p) (listed hw q)
+          (on-run iu) (subst (On t (q .root)) (sym e) (on-run iw)) in
           same-below (suc (p .root)) (p .root) u w (omega arith) iu (subst (In t w) (sym z) iw) e
 
   pub runs : Runs t
@@ -157,3 +168,47 @@ module _ {g : Network} {t : Tree} (c : Components g t) where
       let r = rooted (fits c) u in
       let a = c .tops (r .root) .1 (below-node c (omega (arith, c .all-stations)) (r .below), r .top) in
       omega (arith, on-run (record { station = h; below = r .below }) .to, laid-within t (c .roots) 0 (t .stations) (c .laid-roots) filled-root (r .root) a .1)
+
+  pub siblings : (x y p : ℕ) → t .parent x ≡ Some p → t .parent y ≡ Some p → t .lowest x < t .lowest y → t .high x < t .low y
+  siblings x y p e f h =
+      laid-order t (t .children p) (t .low p) (suc (t .high p)) x y (c .laid p (fits c .inner x p e)) (c .rising p) (filled-child p) (c .children p x .1 e) (c .children p y .1 f) h
+
+  pub roots-order : (x y : ℕ) → x < t .nodes → y < t .nodes → t .parent x ≡ None → t .parent y ≡ None → t .lowest x < t .lowest y → t .high x < t .low y
+  roots-order x y m n e f h =
+      laid-order t (c .roots) 0 (t .stations) x y (c .laid-roots) (c .rising-roots) filled-root (c .tops x .1 (m, e)) (c .tops y .1 (n, f)) h
+
+  -- a node's run begins with its lowest station
+  first-below : (n x : ℕ) → x < n → x < t .nodes → t .place (t .lowest x) ≡ t .low x
+  first-below zero x l h = absurd (omega arith)
+  first-below (suc n) x l h =
+      go (decLt x (t .stations)) (λ d a. first-below n d (omega (arith, child-earlier a)) (c .parent d x (c .children x d .0 a) .node))
+    where
+      go : Dec (x < t .stations) → ((d : ℕ) → Among d (t .children x) → t .place (t .lowest d) ≡ t .low d) → t .place (t .lowest x) ≡ t .low x
+      go (yes s) later = ap (t .place) (c .station-lowest x s) ∙ sym (c .seat-low x s)
+      go (no s) later = inside (in-inner (fits c) (i .above) (holds-in c h (low g t x)))
+        where
+          i : Inner t x
+          i = record { above = omega arith; below = h }
+
+          -- the child with the lowest station of x is the first child
+          inside : Through t (t .lowest x) x → t .place (t .lowest x) ≡ t .low x
+          inside z = begins (t .children x) (c .laid x i) (c .rising x) (c .children x (z .child) .1 (z .parent)) (λ d a. c .children x d .0 a)
+            where
+              lowest : t .lowest (z .child) ≡ t .lowest x
+              lowest =
+                  let q = c .parent (z .child) x (z .parent) in
+                  let m = holds-in c h (low g t x) .station in
+                  omega (arith, lowest-least c (q .node) (in-holds c (record { station = m; below = z .below })), lowest-least c h (q .above .holds (t .lowest (z .child)) (low g t (z .child))))
+
+              begins :
+                  (cs : List ℕ) → Laid t cs (t .low x) (suc (t .high x)) → Rising t cs → Among (z .child) cs → ((d : ℕ) → Among d cs → t .parent d ≡ Some x)
+                  → t .place (t .lowest x) ≡ t .low x
+              begins [] l r a f = elim a [ ]
+              begins (d ∷ ds) l r (inl e) f =
+                  ap (t .place) (sym lowest) ∙ later (z .child) (c .children x (z .child) .1 (z .parent)) ∙ ap (t .low) e ∙ l .0
+              begins (d ∷ ds) l r (inr a) f =
+                  let q = c .parent d x (f d (inl refl)) in
+                  absurd (omega (arith, r .0 (z .child) a, lowest, lowest-least c h (q .above .holds (t .lowest d) (low g t d))))
+
+  pub begins-lowest : (x : ℕ) → x < t .nodes → t .place (t .lowest x) ≡ t .low x
+  begins-lowest x h = first-below (suc x) x (omega arith) h

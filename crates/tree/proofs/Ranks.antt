@@ -3,11 +3,11 @@ use mathlib.Core.Path.{_≡_, refl}
 use mathlib.Core.Logic.{_⊎_, inl, inr}
 use Prim.Native.Nat.{ℕ, zero, suc, _-_, _≤_, _<_, _^_}
 use native.Mathlib.Omega.{arith}
-use native.Mathlib.Decide.{decLt}
+use native.Mathlib.Decide.{decLt, decLe}
 use lib.ListN.{length}
 use Rattle.network.specs.Levels.{IsLevel}
-use Rattle.network.specs.Network.{Network, Proper, Hop, Small, row, delay}
-use Rattle.network.proofs.Levels.{level-of-small, small-of-level}
+use Rattle.network.specs.Network.{Network, Proper, Hop, Small, Under, row, delay}
+use Rattle.network.proofs.Levels.{joined-link, joined-through, level-of-small, small-of-level}
 use Rattle.network.proofs.Groups.{below-pow}
 use Rattle.network.proofs.Search.{First, first-of}
 use Rattle.tree.specs.Joining.{Earlier, Before, Joining}
@@ -25,10 +25,6 @@ level-of ns h = go (first-of (λ i. ns < 2 ^ i) (λ i. decLt ns (2 ^ i)) (suc ns
 
     go : First (λ i. ns < 2 ^ i) (suc ns) → (i : ℕ) × IsLevel ns i
     go f = (f .at, record { least = least (f .at) (f .has); reaches = reach (f .at) (least (f .at) (f .has)) (f .before); under = f .has })
-
-pub level-one : {i j : ℕ} (g : Network) (k : ℕ) → IsLevel (delay g k) i → IsLevel (delay g k) j → i ≡ j
-level-one {i = i} {j = j} g k v w =
-    omega (arith, level-of-small {g = g} {i = j} {k = k} v (record { under = w .under }), level-of-small {g = g} {i = i} {k = k} w (record { under = v .under }))
 
 -- a joining link leads from one of its ends to the other
 pub hop-of : {g : Network} {k : ℕ} → Joining g k → Hop g k (row g k .from) (row g k .to)
@@ -60,3 +56,21 @@ past-before {g} {i} {k} proper l j joining p = go (level-of (delay g j) (proper 
           | yes h ↦ record { level = v .0; other = suc i; first = v .1; second = l; order = inl h }
           | no h ↦ record { level = v .0; other = suc i; first = v .1; second = l; order = inr (omega arith, s .1) }
         ]
+
+-- a joining link is under 2 ^ i where links under 2 ^ i join its ends: else they would all be ranked before it
+pub joining-small : {g : Network} → Proper g → (i k : ℕ) → Joining g k → Under g i (row g k .from) (row g k .to) → Small g i k
+joining-small {g} proper i k l u = go (decLt (delay g k) (2 ^ i))
+  where
+    own : (n : ℕ) × IsLevel (delay g k) n
+    own = level-of (delay g k) (proper k (l .listed) .2)
+
+    before : ¬ (delay g k < 2 ^ i) → (j a b : ℕ) → Hop g j a b → Small g i j → Before g j k
+    before n j a b h s =
+        let v = level-of (delay g j) (proper j (h .listed) .2) in
+        let p : v .0 ≤ i = level-of-small {g = g} (v .1) s in
+        let q : i < own .0 = elim (decLe (own .0) i) [ yes m ↦ absurd (n (small-of-level {g = g} {k = k} (own .1) m .under)) | no m ↦ omega arith ] in
+        record { level = v .0; other = own .0; first = v .1; second = own .1; order = inl (omega arith) }
+
+    go : Dec (delay g k < 2 ^ i) → Small g i k
+    go (yes h) = record { under = h }
+    go (no n) = absurd (l .alone (joined-through (λ j a b h s. joined-link h (before n j a b h s)) u))

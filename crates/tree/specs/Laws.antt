@@ -3,6 +3,8 @@ use mathlib.Core.Path.{_≡_}
 use mathlib.Core.List.{List}
 use mathlib.Core.Logic.{_↔_}
 use Prim.Native.Nat.{ℕ, _≤_, _<_}
+use Rattle.std.specs.declared.option.Option.{Option}
+use Rattle.std.specs.declared.option.Option.the-variants.{Some, None}
 use Rattle.network.specs.Levels.{IsLevel}
 use Rattle.network.specs.Network.{Network, Route, NoRoute, Under, Group, Joint}
 use Rattle.tree.specs.Components.{Components}
@@ -36,6 +38,17 @@ pub record Serves (g : Network) (t : Tree) : Type 0 where
 
 abbrev pub The-tree-serves-the-walk : Type 0
 The-tree-serves-the-walk = (g : Network) (t : Tree) → Components g t → Serves g t
+
+-- how the places lie: in the order of the lowest stations
+pub record In-order (t : Tree) : Type 0 where
+  -- a node's run begins with its lowest station
+  pub first : (x : ℕ) → x < t .nodes → t .place (t .lowest x) ≡ t .low x
+  -- of two children of a node, or two roots, the one with the lower lowest station lies before the other
+  pub siblings : (x y p : ℕ) → t .parent x ≡ Some p → t .parent y ≡ Some p → t .lowest x < t .lowest y → t .high x < t .low y
+  pub roots : (x y : ℕ) → x < t .nodes → y < t .nodes → t .parent x ≡ None → t .parent y ≡ None → t .lowest x < t .lowest y → t .high x < t .low y
+
+abbrev pub Places-are-in-order : Type 0
+Places-are-in-order = (g : Network) (t : Tree) → Components g t → In-order t
 
 -- a node with just the stations that level i joins with a: with their group at level i
 pub record Whole (g : Network) (t : Tree) (i a : ℕ) : Type 0 where

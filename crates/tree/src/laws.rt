@@ -1,7 +1,7 @@
 //! The laws of the component tree. A function here computes nothing: its contract is a theorem of specs/Laws.antt, and the
 //! crate is proved only with its proof.
 
-ghost use Rattle.tree.specs.Laws.{A-network-has-one-tree, The-tree-serves-the-walk, The-nodes-are-the-groups, The-smallest-node-has-the-joint-level, Four-is-of-level-three};
+ghost use Rattle.tree.specs.Laws.{A-network-has-one-tree, The-tree-serves-the-walk, Places-are-in-order, The-nodes-are-the-groups, The-smallest-node-has-the-joint-level, Four-is-of-level-three};
 
 /// Two component trees of one network are the same: in nodes, levels, lowest stations, parents, children, spreads, buckets, places and runs.
 pub fn a_network_has_one_tree() -> u8
@@ -13,6 +13,13 @@ pub fn a_network_has_one_tree() -> u8
 /// The component tree fits its network, has fewer than 2n nodes and at most 6(n − 1) buckets, and a node's run is exactly its stations' places.
 pub fn the_tree_serves_the_walk() -> u8
     ensures { λ _. ⌜ The-tree-serves-the-walk ⌝ }
+{
+    0
+}
+
+/// A node's run of places begins with its lowest station, and siblings lie in the order of their lowest stations.
+pub fn places_are_in_order() -> u8
+    ensures { λ _. ⌜ Places-are-in-order ⌝ }
 {
     0
 }

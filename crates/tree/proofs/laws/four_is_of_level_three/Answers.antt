@@ -13,6 +13,7 @@ not-above : (i : ℕ) → IsLevel 4 i → ¬ (3 < i)
 not-above i l h = let k : 3 ≤ i - 1 = omega arith in let p = pow-mono k in let z : 2 ^ 3 ≡ 8 = refl in omega (arith, l .reaches)
 
 pub returns : need.returns
-returns c = λ i.
-    (λ l. omega (arith, not-below i l, not-above i l),
-    λ e. subst (IsLevel 4) (sym e) (record { least = omega arith; reaches = omega arith; under = omega arith }))
+returns c = λ i. (
+  λ l. omega (arith, not-below i l, not-above i l),
+  λ e. subst (IsLevel 4) (sym e) (record { least = omega arith; reaches = omega arith; under = omega arith }),
+)
