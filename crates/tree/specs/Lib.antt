@@ -1,2 +1,5 @@
+pub mod Components
+pub mod Joining
+pub mod Laws
 pub mod Totals
 pub mod Tree

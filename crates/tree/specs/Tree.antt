@@ -15,7 +15,9 @@ pub record Tree : Type 0 where
   -- by node: the smallest node that properly holds it; a root has none
   pub parent : ℕ → Option ℕ
   pub children : ℕ → List ℕ
+  -- by node: its level, and the lowest of its stations
   pub level : ℕ → ℕ
+  pub lowest : ℕ → ℕ
   -- by inner node: what the joining links inside it take together, how many buckets it has, and the number of the first
   pub spread : ℕ → ℕ
   pub buckets : ℕ → ℕ
