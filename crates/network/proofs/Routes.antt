@@ -95,3 +95,11 @@ pub sum-bound :
     {g : Network} {a b : ℕ} {ks : List ℕ} (most : ℕ) → ((k : ℕ) → k < length (g .rows) → delay g k ≤ most) → Route g a ks b → sum g ks ≤ length ks * most
 sum-bound most f here = omega arith
 sum-bound most f (step {k = k} {ks = ks} h p) = omega (arith, f k (h .listed), sum-bound most f p, suc-mul (length ks) most)
+
+-- a link leads from a station to one other
+pub other-end : {g : Network} {k a b c : ℕ} → Hop g k a b → Hop g k a c → b ≡ c
+other-end j l = same-start (flip j) (flip l)
+
+-- and from no third
+pub either-end : {g : Network} {k a b c d : ℕ} → Hop g k a b → Hop g k c d → (c ≡ a) ⊎ (c ≡ b)
+either-end j l = elim (same-ends j l) [ inl e ↦ inl (e .0) | inr e ↦ inr (e .0) ]

@@ -6,7 +6,6 @@ pub mod Forest
 pub mod Growing
 pub mod Holding
 pub mod Joints
-pub mod Laws-of-routes
 pub mod Making
 pub mod Marks
 pub mod Nodes

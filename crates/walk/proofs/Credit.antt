@@ -13,7 +13,7 @@ use Rattle.std.specs.declared.option.Option.the-variants.{Some, None}
 use Rattle.network.specs.Network.{Network, Hop}
 use Rattle.tree.specs.Totals.{total}
 use Rattle.tree.specs.Tree.{Tree, Fits, Sized, Among, Distinct}
-use Rattle.tree.proofs.Laws-of-routes.{either-end}
+use Rattle.network.proofs.Routes.{either-end}
 use Rattle.tree.proofs.Nodes.{node-of}
 use Rattle.tree.proofs.Totals.{total-mono, total-ones, total-changed}
 use Rattle.tree.proofs.Words.{some-none, same-some}

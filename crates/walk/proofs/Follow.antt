@@ -12,7 +12,7 @@ use Rattle.std.specs.declared.option.Option.{Option}
 use Rattle.std.specs.declared.option.Option.the-variants.{Some, None}
 use Rattle.network.specs.Network.{Network, Hop, row, delay}
 use Rattle.tree.specs.Tree.{Tree, up, Fits, width, Among, Distinct}
-use Rattle.tree.proofs.Laws-of-routes.{other-end}
+use Rattle.network.proofs.Routes.{other-end}
 use Rattle.tree.proofs.Nodes.{in-parent}
 use Rattle.tree.proofs.Words.{some-none, same-some}
 use Rattle.walk.specs.declared.frame.Frame.{Frame}

@@ -13,7 +13,7 @@ use Rattle.std.specs.declared.option.Option.{Option}
 use Rattle.std.specs.declared.option.Option.the-variants.{Some, None}
 use Rattle.network.specs.Network.{Network, Route, here, Hop, Attained, Least, sum, delay}
 use Rattle.tree.specs.Tree.{Tree, Below, Inner, Near, Fits, width}
-use Rattle.tree.proofs.Laws-of-routes.{join}
+use Rattle.network.proofs.Routes.{join}
 use Rattle.tree.proofs.Nodes.{in-parent, nest, root-top, rooted, holder, below-inner, station-only}
 use Rattle.tree.proofs.Routes.{stay, route-ends}
 use Rattle.tree.proofs.Totals.{total-mono, total-ones}

@@ -11,7 +11,7 @@ use Rattle.std.specs.declared.option.Option.the-variants.{Some, None}
 use Rattle.network.specs.Network.{Network}
 use Rattle.tree.specs.Totals.{total}
 use Rattle.tree.specs.Tree.{Tree, self, Fits}
-use Rattle.tree.proofs.Laws-of-routes.{turn}
+use Rattle.network.proofs.Routes.{turn}
 use Rattle.tree.proofs.Nodes.{node-of, station-only}
 use Rattle.tree.proofs.Routes.{stay}
 use Rattle.tree.proofs.Totals.{total-mono, total-zero, total-longer, total-changed}

@@ -9,7 +9,8 @@ use Rattle.std.specs.declared.option.Option.{Option}
 use Rattle.std.specs.declared.option.Option.the-variants.{Some, None}
 use Rattle.network.specs.Network.{Network, Hop, delay}
 use Rattle.tree.specs.Tree.{Tree, In, Fits}
-use Rattle.tree.proofs.Laws-of-routes.{one-more, other-end}
+use Rattle.network.proofs.Leasts.{attained-link}
+use Rattle.network.proofs.Routes.{other-end}
 use Rattle.tree.proofs.Routes.{ends}
 use Rattle.tree.proofs.Words.{same-some}
 use Rattle.walk.specs.declared.frame.Frame.{Frame}
@@ -26,7 +27,7 @@ module _ {g : Network} {t : Tree} (fits : Fits g t) {src : ℕ} {s : Core} {fs :
   found′ j n low w y e (no z) = facts .delays .found w y (sym (low .off w z) ∙ e)
   found′ {u} {soFar′} j n low w y e (yes z) =
       let q : y ≡ d + delay g k = same-some (ap soFar′ (sym z) ∙ e) (low .at) in
-      rw (z, q) (record { station = ends fits j; unvisited = n; attained = one-more (facts .delays .exact v d seen .attained) j })
+      rw (z, q) (record { station = ends fits j; unvisited = n; attained = attained-link (facts .delays .exact v d seen .attained) j })
 
   -- the station u is lowered, and its front c moved to where it belongs
   module _ {u c : ℕ} {b : Option ℕ} {soFar′ : ℕ → Option ℕ} {h′ : Shelf} (j : Hop g k v u) (n : s .final u ≡ None)

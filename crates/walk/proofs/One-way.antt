@@ -8,7 +8,7 @@ use Rattle.std.specs.declared.option.Option.{Option}
 use Rattle.std.specs.declared.option.Option.the-variants.{Some}
 use Rattle.network.specs.Network.{Network, delay}
 use Rattle.tree.specs.Tree.{Tree, Below, Fits, width}
-use Rattle.tree.proofs.Laws-of-routes.{other-end}
+use Rattle.network.proofs.Routes.{other-end}
 use Rattle.tree.proofs.Words.{some-none, same-some}
 use Rattle.walk.specs.declared.frame.Frame.{Frame}
 use Rattle.walk.specs.State.{Shelf, Core, State, Changed, lowered, called, counted}

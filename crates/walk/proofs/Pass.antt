@@ -8,7 +8,7 @@ use Rattle.std.specs.declared.option.Option.{Option}
 use Rattle.std.specs.declared.option.Option.the-variants.{Some, None}
 use Rattle.network.specs.Network.{Network, Route, here, step, Hop, sum, delay}
 use Rattle.tree.specs.Tree.{Tree, Below, self, up, In, Fits}
-use Rattle.tree.proofs.Laws-of-routes.{turn, turn-sum}
+use Rattle.network.proofs.Routes.{turn, turn-sum}
 use Rattle.tree.proofs.Nodes.{in-parent, tell}
 use Rattle.tree.proofs.Routes.{meet}
 use Rattle.tree.proofs.Words.{some-none}

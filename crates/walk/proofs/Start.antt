@@ -9,7 +9,7 @@ use Rattle.std.specs.declared.option.Option.{Option}
 use Rattle.std.specs.declared.option.Option.the-variants.{Some, None}
 use Rattle.network.specs.Network.{Network, Route, sum}
 use Rattle.tree.specs.Tree.{Tree, Below, In, Inner, Fits, width}
-use Rattle.tree.proofs.Laws-of-routes.{least-self}
+use Rattle.network.proofs.Leasts.{least-self}
 use Rattle.tree.proofs.Nodes.{station-only, root-top, holder}
 use Rattle.tree.proofs.Words.{some-none, same-some}
 use Rattle.walk.specs.State.{Core, State, Changed, called, grown}

@@ -10,7 +10,7 @@ use Rattle.std.specs.declared.option.Option.{Option}
 use Rattle.std.specs.declared.option.Option.the-variants.{Some, None}
 use Rattle.network.specs.Network.{Network, Route, here, step, Hop, Attained, Least, Each, and, Small, sum, delay}
 use Rattle.tree.specs.Tree.{Tree, Below, self, In, Inner, Fits, width}
-use Rattle.tree.proofs.Laws-of-routes.{flip, join, join-sum}
+use Rattle.network.proofs.Routes.{flip, join, join-sum}
 use Rattle.tree.proofs.Nodes.{station-only, separate}
 use Rattle.tree.proofs.Routes.{ends}
 use Rattle.tree.proofs.Routes as routes
