@@ -10,9 +10,11 @@ pub mod Laws-of-routes
 pub mod Making
 pub mod Marks
 pub mod Nodes
+pub mod Own
 pub mod Places
 pub mod Ranks
 pub mod Routes
+pub mod Same
 pub mod Sizes
 pub mod Sums
 pub mod Totals
