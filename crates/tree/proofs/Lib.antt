@@ -2,6 +2,7 @@ pub mod Agree
 pub mod Common
 pub mod Counts
 pub mod Fit
+pub mod Five
 pub mod Forest
 pub mod Growing
 pub mod Holding
