@@ -1,8 +1,8 @@
 -- How many nodes and buckets the component tree has: the own links of all nodes are joining links, none of them counted twice, and over all nodes the halves
 -- of the buckets cancel; so the buckets are at most 6 times the joining links, which are fewer than the stations.
-use mathlib.Core.Path.{_≡_, refl}
-use mathlib.Core.List.{List, [], _∷_, _++_}
-use mathlib.Core.Logic.{_⊎_, inl, inr}
+use mathlib.Core.Path.{_≡_}
+use mathlib.Core.List.{List, [], _++_}
+use mathlib.Core.Logic.{inl, inr}
 use Prim.Native.Nat.{ℕ, zero, suc, _+_, _-_, _*_, _≤_, _<_, _^_}
 use native.Mathlib.Omega.{arith}
 use native.Mathlib.Decide.{decLt, decLe}
@@ -13,7 +13,7 @@ use Rattle.network.specs.Network.{Network, delay}
 use Rattle.network.proofs.Lists.{once, among-join}
 use Rattle.tree.specs.Components.{Components}
 use Rattle.tree.specs.Totals.{total}
-use Rattle.tree.specs.Tree.{Tree, Inner, Sized, buckets-in-all}
+use Rattle.tree.specs.Tree.{Tree, Inner, Sized}
 use Rattle.tree.proofs.Words.{same-some}
 use Rattle.tree.proofs.Totals.{total-longer}
 use Rattle.tree.proofs.Sums.{tally, tally-below, length-join, distinct-join, gather}

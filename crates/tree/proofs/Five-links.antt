@@ -1,18 +1,18 @@
 -- The joining links of the five stations' network, and the spreads of its nodes.
-use mathlib.Core.Path.{_≡_, refl, sym, ap, subst, _∙_}
-use mathlib.Core.List.{List, [], _∷_}
-use mathlib.Core.Bool.{Bool, true, false}
-use mathlib.Core.Logic.{_⊎_, inl, inr, _≢_, _↔_}
+use mathlib.Core.Path.{_≡_, refl, sym, subst, _∙_}
+use mathlib.Core.List.{[], _∷_}
+use mathlib.Core.Bool.{true, false}
+use mathlib.Core.Logic.{inl, inr}
 use Prim.Native.Nat.{ℕ, zero, suc, _≤_, _<_}
 use native.Mathlib.Omega.{arith}
 use lib.ListN.{getD}
 use Rattle.network.specs.Levels.{IsLevel}
-use Rattle.network.specs.Lists.{Among, Distinct}
+use Rattle.network.specs.Lists.{Among}
 use Rattle.network.specs.Network.{here, step, none, and, Small, Under, row}
 use Rattle.network.proofs.Levels.{joined-self, under-grows}
 use Rattle.tree.specs.Components.{Holds, Inside, Spread}
 use Rattle.tree.specs.Five.{five, five-tree}
-use Rattle.tree.specs.Joining.{Before, Joining}
+use Rattle.tree.specs.Joining.{Joining}
 use Rattle.tree.proofs.Ranks.{Past, before-past}
 use Rattle.tree.proofs.Five-groups.{links, two, three, clash, along, p1, p2, p4, proper, under-zero, under-two, under-four, hop0, hop1, hop3, u01, u02, u03, all-rep}
 

@@ -1,7 +1,7 @@
 -- The component tree of the five stations.
 use mathlib.Core.Path.{_≡_, refl}
-use mathlib.Core.List.{List, [], _∷_}
-use Prim.Native.Nat.{ℕ, suc, _+_}
+use mathlib.Core.List.{[], _∷_}
+use Prim.Native.Nat.{suc, _+_}
 use native.Mathlib.Omega.{arith}
 use Rattle.tree.specs.Components.{Components, Laid, rounded-up}
 use Rattle.tree.specs.Five.{five, five-tree}

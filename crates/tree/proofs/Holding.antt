@@ -1,16 +1,16 @@
 -- Which stations a node holds, and which node holds another: by routes, and by parents.
 use mathlib.Core.Path.{_≡_, refl, sym, ap, subst, _∙_}
-use mathlib.Core.Logic.{_⊎_, inl, inr}
+use mathlib.Core.Logic.{inl, inr}
 use Prim.Native.Nat.{ℕ, zero, suc, _+_, _≤_, _<_}
 use native.Mathlib.Omega.{arith}
 use native.Mathlib.Decide.{ℕ-discrete, decLt, decLe}
 use Rattle.std.specs.declared.option.Option.{Option}
 use Rattle.std.specs.declared.option.Option.the-variants.{Some, None}
-use Rattle.network.specs.Network.{Network, Under, Joint}
+use Rattle.network.specs.Network.{Network, Under}
 use Rattle.network.proofs.Routes.{route-station}
 use Rattle.network.proofs.Levels.{joined-self, joined-symmetric, joined-transitive, under-grows}
 use Rattle.network.proofs.Groups.{under-zero}
-use Rattle.tree.specs.Components.{Components, Forms, Holds, Within, Above, Parent}
+use Rattle.tree.specs.Components.{Components, Holds, Within, Above}
 use Rattle.tree.specs.Tree.{Tree, Below, self, up, In, Inner}
 
 -- of two nodes that share a station, the one of no higher level is within the other

@@ -9,8 +9,7 @@ use native.Mathlib.Nat.{add-mul, mul-comm, mul-assoc, mul-le-mul-right}
 use native.Mathlib.Decide.{decLt}
 use lib.ListN.{length}
 use lib.Pow.{pow-pos, pow-mono}
-use Rattle.std.specs.declared.option.Option.{Option}
-use Rattle.std.specs.declared.option.Option.the-variants.{Some, None}
+use Rattle.std.specs.declared.option.Option.the-variants.{Some}
 use Rattle.network.specs.Lists.{Among, Distinct}
 use Rattle.network.specs.Network.{Network, Under, row, delay, sum}
 use Rattle.network.proofs.Routes.{join-sum}
