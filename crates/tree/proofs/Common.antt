@@ -1,17 +1,15 @@
 -- The node that two stations have in common at their joint level.
-use mathlib.Core.Path.{_≡_, refl, sym, subst}
-use mathlib.Core.List.{List}
-use mathlib.Core.Logic.{_⊎_, inl, inr, _≢_}
+use mathlib.Core.Path.{_≡_, sym, subst}
 use Prim.Native.Nat.{ℕ, zero, suc, _≤_, _<_}
 use native.Mathlib.Omega.{arith}
 use native.Mathlib.Decide.{decLt, decLe}
-use Rattle.network.specs.Network.{Network, Route, NoRoute, Under, Group, Joint}
+use Rattle.network.specs.Network.{Network, Under, Joint}
 use Rattle.network.proofs.Levels.{joined-self, joined-symmetric, joined-transitive, under-grows}
 use Rattle.network.proofs.Groups.{under-zero, under?, joint-of, joint-apart}
 use Rattle.network.proofs.Search.{First, first-of, first-least}
-use Rattle.tree.specs.Components.{Components, Forms, Listed, Holds, Above}
-use Rattle.tree.specs.Tree.{Tree, Below, self, In, Inner}
-use Rattle.tree.proofs.Holding.{share, not-station, above-of, station-holds, same-node, holds-in, in-holds, in-node}
+use Rattle.tree.specs.Components.{Components, Forms, Holds, Above}
+use Rattle.tree.specs.Tree.{Tree}
+use Rattle.tree.proofs.Holding.{share, not-station, above-of, station-holds}
 
 -- joined at level m + 1 and not at level m: nor at any lower level
 first-joint : {g : Network} {m a b : ℕ} → ¬ Under g m a b → Under g (suc m) a b → Joint g a b (suc m)

@@ -1,25 +1,24 @@
 -- The component tree fits its network: all that the walk has to know of it.
-use mathlib.Core.Path.{_≡_, refl, sym, ap, subst, _∙_}
+use mathlib.Core.Path.{_≡_, refl, ap}
 use mathlib.Core.List.{List, [], _∷_}
 use mathlib.Core.Logic.{_⊎_, inl, inr}
-use Prim.Native.Nat.{ℕ, _+_, _-_, _*_, _≤_, _<_, _^_}
+use Prim.Native.Nat.{ℕ, _+_, _-_, _*_, _≤_, _<_}
 use native.Mathlib.Omega.{arith}
 use native.Mathlib.Decide.{decLt}
 use native.Mathlib.Nat.{add-mul}
 use lib.Pow.{pow-pos}
-use Rattle.std.specs.declared.option.Option.{Option}
 use Rattle.std.specs.declared.option.Option.the-variants.{Some, None}
 use Rattle.network.specs.Lists.{Among, Distinct}
-use Rattle.network.specs.Network.{Network, Hop, Route, here, step, Each, none, and, Small, row, delay, sum}
+use Rattle.network.specs.Network.{Network, Hop, Route, here, step, Each, none, and, Small, row, delay}
 use Rattle.network.proofs.Routes.{flip, same-ends, hop-stations}
 use Rattle.network.proofs.Levels.{joined-link, joined-symmetric, joined-transitive}
 use Rattle.network.proofs.Lists.{once, each-among}
 use Rattle.network.proofs.Cuts.{tour-of, tour-route, tour-once}
 use Rattle.network.proofs.Groups.{under?, below-pow}
 use Rattle.tree.specs.Joining.{Joining}
-use Rattle.tree.specs.Components.{Components, Holds, Rising, Inside, Spread, rounded-up}
+use Rattle.tree.specs.Components.{Components, Holds, Rising, Inside, rounded-up}
 use Rattle.tree.specs.Tree as T
-use Rattle.tree.specs.Tree.{Tree, Below, In, Inner, Near, Fits, width}
+use Rattle.tree.specs.Tree.{Tree, Below, Inner, Near, Fits, width}
 use Rattle.tree.proofs.Growing.{Grouped, by-joining}
 use Rattle.tree.proofs.Forest.{forest}
 use Rattle.tree.proofs.Ranks.{hop-of}

@@ -1,19 +1,18 @@
 -- The joining links of all levels, found link by link: they join what all links join, and are fewer than the stations.
-use mathlib.Core.Path.{_≡_, refl, sym, ap, subst, _∙_}
+use mathlib.Core.Path.{_≡_, refl, sym, subst}
 use mathlib.Core.List.{List, [], _∷_}
-use mathlib.Core.Bool.{Bool, true, false}
-use mathlib.Core.Logic.{_⊎_, inl, inr, _≢_}
+use mathlib.Core.Bool.{true, false}
+use mathlib.Core.Logic.{_⊎_, inl, inr}
 use Prim.Native.Nat.{ℕ, zero, suc, _+_, _-_, _≤_, _<_, _^_}
 use native.Mathlib.Omega.{arith}
 use native.Mathlib.Decide.{ℕ-discrete, decLt}
 use lib.ListN.{length, getD}
 use Rattle.network.specs.Levels.{IsLevel}
-use Rattle.network.specs.Lists.{Among, Distinct}
-use Rattle.network.specs.Network.{Network, Proper, Hop, Joined, Small, row, delay}
-use Rattle.network.proofs.Routes.{flip, hop-stations, hop-delay}
+use Rattle.network.specs.Lists.{Among}
+use Rattle.network.specs.Network.{Network, Proper, Hop, Joined, Small, delay}
+use Rattle.network.proofs.Routes.{hop-stations, hop-delay}
 use Rattle.network.proofs.Levels.{joined-self, small-grows}
 use Rattle.network.proofs.Search.{true?}
-use Rattle.tree.specs.Joining.{Before, Joining}
 use Rattle.tree.specs.Totals.{total}
 use Rattle.tree.proofs.Marks.{merge, merged, merged-self, merged-own, own, own-all, own-some}
 use Rattle.tree.proofs.Ranks.{Past, before-past, past-before, hop-of}

@@ -1,14 +1,14 @@
 -- Groups and joining links while the links are looked at in the order of their ranks: what is known in the midst of it, and the three steps (a link
 -- skipped, a link inside a group, a link that joins two). The code that makes the tree goes these steps.
-use mathlib.Core.Path.{_≡_, refl, sym, ap, _∙_}
-use mathlib.Core.List.{List, [], _∷_}
+use mathlib.Core.Path.{_≡_, refl, sym, _∙_}
+use mathlib.Core.List.{List, _∷_}
 use mathlib.Core.Logic.{_⊎_, inl, inr, _≢_}
 use Prim.Native.Nat.{ℕ}
 use native.Mathlib.Decide.{ℕ-discrete}
 use Rattle.network.specs.Lists.{Among, Distinct}
-use Rattle.network.specs.Network.{Network, Hop, Route, here, step, Each, none, and, Joined, row}
-use Rattle.network.proofs.Routes.{flip, same-ends}
-use Rattle.network.proofs.Levels.{each-map, joined-self, joined-link, joined-symmetric, joined-transitive, joined-map}
+use Rattle.network.specs.Network.{Network, Hop, Route, here, step, Each, and, Joined, row}
+use Rattle.network.proofs.Routes.{same-ends}
+use Rattle.network.proofs.Levels.{joined-link, joined-symmetric, joined-transitive, joined-map}
 use Rattle.tree.specs.Joining.{Before, Joining}
 use Rattle.tree.proofs.Marks.{Merged}
 use Rattle.tree.proofs.Ranks.{hop-of}

@@ -1,16 +1,16 @@
 -- Which stations a node holds, and which node holds another: by routes, and by parents.
 use mathlib.Core.Path.{_≡_, refl, sym, ap, subst, _∙_}
-use mathlib.Core.Logic.{_⊎_, inl, inr}
+use mathlib.Core.Logic.{inl, inr}
 use Prim.Native.Nat.{ℕ, zero, suc, _+_, _≤_, _<_}
 use native.Mathlib.Omega.{arith}
 use native.Mathlib.Decide.{ℕ-discrete, decLt, decLe}
 use Rattle.std.specs.declared.option.Option.{Option}
 use Rattle.std.specs.declared.option.Option.the-variants.{Some, None}
-use Rattle.network.specs.Network.{Network, Under, Joint}
+use Rattle.network.specs.Network.{Network, Under}
 use Rattle.network.proofs.Routes.{route-station}
 use Rattle.network.proofs.Levels.{joined-self, joined-symmetric, joined-transitive, under-grows}
 use Rattle.network.proofs.Groups.{under-zero}
-use Rattle.tree.specs.Components.{Components, Forms, Holds, Within, Above, Parent}
+use Rattle.tree.specs.Components.{Components, Holds, Within, Above}
 use Rattle.tree.specs.Tree.{Tree, Below, self, up, In, Inner}
 
 -- of two nodes that share a station, the one of no higher level is within the other
@@ -20,13 +20,17 @@ share t x y l hx hy v hv = joined-transitive hy (under-grows l (joined-transitiv
 pub low : (g : Network) (t : Tree) (x : ℕ) → Holds g t x (t .lowest x)
 low g t x = joined-self (t .lowest x)
 
+-- what properly holds a node is of a higher level
+pub above-rises : {g : Network} {t : Tree} {x y : ℕ} → Above g t x y → t .level x < t .level y
+above-rises {g} {t} {x} {y} a = go (decLt (t .level x) (t .level y))
+  where
+    go : Dec (t .level x < t .level y) → t .level x < t .level y
+    go (yes l) = l
+    go (no l) = let m : t .level y ≤ t .level x = omega arith in absurd (a .properly (share t y x m (a .holds (t .lowest x) (low g t x)) (low g t x)))
+
 module _ {g : Network} {t : Tree} (c : Components g t) where
   pub above-level : {x y : ℕ} → Above g t x y → t .level x < t .level y
-  above-level {x} {y} a = go (decLt (t .level x) (t .level y))
-    where
-      go : Dec (t .level x < t .level y) → t .level x < t .level y
-      go (yes l) = l
-      go (no l) = let m : t .level y ≤ t .level x = omega arith in absurd (a .properly (share t y x m (a .holds (t .lowest x) (low g t x)) (low g t x)))
+  above-level a = above-rises a
 
   pub not-station : {x : ℕ} → x < t .nodes → 1 ≤ t .level x → Inner t x
   not-station {x} h l =

@@ -1,20 +1,20 @@
 -- The stations of a node are a group; and the smallest node with two stations has their joint level.
-use mathlib.Core.Path.{_≡_, refl, sym, ap, subst, _∙_}
+use mathlib.Core.Path.{_≡_, refl, subst}
 use mathlib.Core.List.{List}
-use mathlib.Core.Logic.{_⊎_, inl, inr, _≢_}
+use mathlib.Core.Logic.{_⊎_, inl, inr}
 use Prim.Native.Nat.{ℕ, zero, suc, _+_, _≤_, _<_}
 use native.Mathlib.Omega.{arith}
-use native.Mathlib.Decide.{decLt, decLe}
+use native.Mathlib.Decide.{decLe}
 use Rattle.std.specs.declared.option.Option.{Option}
 use Rattle.std.specs.declared.option.Option.the-variants.{Some, None}
 use Rattle.network.specs.Network.{Network, Route, NoRoute, Under, Group, Joint}
 use Rattle.network.proofs.Levels.{joined-symmetric, joined-transitive, under-grows}
 use Rattle.network.proofs.Groups.{under?, joint-of}
-use Rattle.tree.specs.Components.{Components, Holds, Above}
+use Rattle.tree.specs.Components.{Components, Above}
 use Rattle.tree.specs.Laws.{Smallest, Whole}
-use Rattle.tree.specs.Tree.{Tree, Below, self, up, In, Inner}
+use Rattle.tree.specs.Tree.{Tree, Below, self, In, Inner}
 use Rattle.tree.proofs.Nodes.{nest, below-level}
-use Rattle.tree.proofs.Holding.{low, same-node, holds-in, in-holds, in-node, station-holds, above-later, above-inner, above-level, within-level, lowest-least, not-station, station-one}
+use Rattle.tree.proofs.Holding.{low, same-node, holds-in, in-holds, in-node, above-later, above-inner, within-level}
 use Rattle.tree.proofs.Common.{Common, common, over}
 use Rattle.tree.proofs.Fit.{fits}
 

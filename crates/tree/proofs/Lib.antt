@@ -2,6 +2,10 @@ pub mod Agree
 pub mod Common
 pub mod Counts
 pub mod Fit
+pub mod Five
+pub mod Five-groups
+pub mod Five-links
+pub mod Five-parents
 pub mod Forest
 pub mod Growing
 pub mod Holding
@@ -9,9 +13,11 @@ pub mod Joints
 pub mod Making
 pub mod Marks
 pub mod Nodes
+pub mod Own
 pub mod Places
 pub mod Ranks
 pub mod Routes
+pub mod Same
 pub mod Sizes
 pub mod Sums
 pub mod Totals

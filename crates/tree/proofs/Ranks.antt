@@ -4,7 +4,6 @@ use mathlib.Core.Logic.{_⊎_, inl, inr}
 use Prim.Native.Nat.{ℕ, zero, suc, _-_, _≤_, _<_, _^_}
 use native.Mathlib.Omega.{arith}
 use native.Mathlib.Decide.{decLt, decLe}
-use lib.ListN.{length}
 use Rattle.network.specs.Levels.{IsLevel}
 use Rattle.network.specs.Network.{Network, Proper, Hop, Small, Under, row, delay}
 use Rattle.network.proofs.Levels.{joined-link, joined-through, level-of-small, small-of-level}

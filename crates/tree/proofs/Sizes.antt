@@ -1,6 +1,6 @@
 -- Quotients rounded up, and widths that double.
-use mathlib.Core.Path.{_≡_, sym, ap, _∙_}
-use Prim.Native.Nat.{ℕ, zero, suc, _+_, _-_, _*_, _/_, _≤_, _<_, _^_}
+use mathlib.Core.Path.{_≡_, sym, ap}
+use Prim.Native.Nat.{ℕ, suc, _+_, _-_, _*_, _/_, _≤_, _<_, _^_}
 use native.Mathlib.Omega.{arith}
 use native.Mathlib.Nat.{lt-div-mul-add, mul-le-mul-right, div-lt-iff-lt-mul, suc-mul, mul-assoc, pow-suc}
 use Rattle.tree.specs.Components.{rounded-up}

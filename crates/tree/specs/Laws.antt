@@ -3,11 +3,11 @@ use mathlib.Core.Path.{_≡_}
 use mathlib.Core.List.{List}
 use mathlib.Core.Logic.{_↔_}
 use Prim.Native.Nat.{ℕ, _≤_, _<_}
-use Rattle.std.specs.declared.option.Option.{Option}
 use Rattle.std.specs.declared.option.Option.the-variants.{Some, None}
 use Rattle.network.specs.Levels.{IsLevel}
 use Rattle.network.specs.Network.{Network, Route, NoRoute, Under, Group, Joint}
 use Rattle.tree.specs.Components.{Components}
+use Rattle.tree.specs.Five.{five, five-tree}
 use Rattle.tree.specs.Tree.{Tree, Below, In, Inner, Fits, Sized, Runs}
 
 -- two trees are the same in all that is said of a node
@@ -92,3 +92,7 @@ The-smallest-node-has-the-joint-level = (g : Network) (t : Tree) → Components 
 -- a link of 4 ns is of level 3 and of no other
 abbrev pub Four-is-of-level-three : Type 0
 Four-is-of-level-three = (i : ℕ) → IsLevel 4 i ↔ i ≡ 3
+
+-- the worked case
+abbrev pub Five-stations-have-this-tree : Type 0
+Five-stations-have-this-tree = Components five five-tree

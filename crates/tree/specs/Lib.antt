@@ -1,4 +1,5 @@
 pub mod Components
+pub mod Five
 pub mod Joining
 pub mod Laws
 pub mod Totals

@@ -1,7 +1,6 @@
 use mathlib.Core.Path.{_≡_, refl, sym, subst}
 use Prim.Native.Nat.{ℕ, _≤_, _<_, _-_, _^_}
 use native.Mathlib.Omega.{arith}
-use native.Mathlib.Decide.{decLe, decLt}
 use lib.Pow.{pow-mono}
 use Rattle.network.specs.Levels.{IsLevel}
 use Rattle.tree.proofs.laws.four_is_of_level_three.Needs as need
