@@ -1,0 +1,4 @@
+pub mod Counting
+pub mod Leaving
+pub mod Passing
+pub mod Returned
