@@ -41,6 +41,22 @@ impl Map {
         number_at(&self.level, node as usize)
     }
 
+    /// By how much a delay is shifted to be counted in the width of a node's buckets.
+    pub fn shift_of(&self, node: u32) -> u32
+        ensures is { λ r. ⌜ r ≡ tree-of (now (self .entry)) .level node - 1 ⌝ }
+        ensures small { λ r. ⌜ r < 32 ⌝ }
+    {
+        self.level_of(node).saturating_sub(1)
+    }
+
+    /// By how much a counter of a node is shifted to be counted in the width of its parent's buckets.
+    pub fn coarser(&self, node: u32, parent: u32) -> u32
+        ensures is { λ r. ⌜ r ≡ tree-of (now (self .entry)) .level parent - tree-of (now (self .entry)) .level node ⌝ }
+        ensures small { λ r. ⌜ r ≤ 32 ⌝ }
+    {
+        self.level_of(parent).saturating_sub(self.level_of(node))
+    }
+
     /// How many children a node has.
     pub fn many_of(&self, node: u32) -> u32
         ensures { λ r. ⌜ r ≡ length (tree-of (now (self .entry)) .children node) ⌝ }
