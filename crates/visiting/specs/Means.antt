@@ -3,7 +3,7 @@ use mathlib.Core.Path.{_≡_}
 use mathlib.Core.List.{List}
 use mathlib.Core.Bool.{Bool, cond}
 use lib.Dec.{ltb}
-use Prim.Native.Nat.{ℕ}
+use Prim.Native.Nat.{ℕ, _+_}
 use lib.ListN.{getD, set}
 use Rattle.std.specs.Of.Vec.{vec-items}
 use Rattle.std.specs.declared.option.Option.{Option}
@@ -45,3 +45,15 @@ pub record Settled-at (w w′ : Trail) (v d : ℕ) : Type 0 where
   pub settled : vec-items (w′ .settled) ≡ set (vec-items (w .settled)) v (Some d)
   pub base : w′ .base ≡ w .base
   pub count : w′ .count ≡ w .count
+
+-- the counter of x rose by one
+pub record Risen (w w′ : Trail) (x : ℕ) : Type 0 where
+  pub count : vec-items (w′ .count) ≡ set (vec-items (w .count)) x (count-of w x + 1)
+  pub settled : w′ .settled ≡ w .settled
+  pub base : w′ .base ≡ w .base
+
+-- x was expanded, with the base b
+pub record Opened (w w′ : Trail) (x b : ℕ) : Type 0 where
+  pub base : vec-items (w′ .base) ≡ set (vec-items (w .base)) x (Some b)
+  pub count : vec-items (w′ .count) ≡ set (vec-items (w .count)) x b
+  pub settled : w′ .settled ≡ w .settled

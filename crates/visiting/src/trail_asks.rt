@@ -1,8 +1,9 @@
 ghost use mathlib.Core.Path.{_≡_};
+ghost use Prim.Native.Nat.{_+_, _<_, _^_};
 ghost use lib.ListN.{getD};
-ghost use Rattle.std.specs.Of.Vec.{vec-items};
+ghost use Rattle.std.specs.Of.Vec.{vec-len, vec-items};
 ghost use Rattle.std.specs.declared.option.Option.the-variants.{None};
-ghost use Rattle.visiting.specs.Means.{final-of, base-of, count-of, Settled-at};
+ghost use Rattle.visiting.specs.Means.{final-of, base-of, count-of, Settled-at, Risen, Opened};
 use super::trail::Trail;
 
 /// The delay at a place of a list; none past its end.
@@ -47,5 +48,24 @@ impl Trail {
         if i < self.settled.len() {
             self.settled[i] = Some(d);
         }
+    }
+
+    /// Raises the counter of a node by one.
+    pub fn rise(&mut self, node: u32)
+        requires listed { ⌜ node < vec-len (now self .count) ⌝ }
+        requires fits { ⌜ count-of (now self) node + 1 < 2 ^ 64 ⌝ }
+        ensures { λ _. ⌜ Risen (now (self .entry)) (now (self .exit)) node ⌝ }
+    {
+        self.count[node as usize] += 1;
+    }
+
+    /// Expands a node: `b` is its base and its counter.
+    pub fn open(&mut self, node: u32, b: u64)
+        requires base { ⌜ node < vec-len (now self .base) ⌝ }
+        requires count { ⌜ node < vec-len (now self .count) ⌝ }
+        ensures { λ _. ⌜ Opened (now (self .entry)) (now (self .exit)) node b ⌝ }
+    {
+        self.base[node as usize] = Some(b);
+        self.count[node as usize] = b;
     }
 }
