@@ -1,2 +1,3 @@
 pub mod Kids
 pub mod Looks
+pub mod Turns
