@@ -1,3 +1,5 @@
 pub mod Kids
 pub mod Looks
+pub mod Stacks
+pub mod Theory
 pub mod Turns

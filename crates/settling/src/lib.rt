@@ -4,5 +4,6 @@
 pub mod enter;
 pub mod grow;
 pub mod look;
+pub mod run;
 pub mod step;
 pub mod turn;
