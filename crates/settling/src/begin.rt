@@ -1,0 +1,36 @@
+ghost use mathlib.Core.Path.{_≡_};
+ghost use Prim.Native.Nat.{ℕ, _<_};
+ghost use lib.ListN.{getD};
+ghost use Rattle.std.specs.Of.Vec.{vec-len, vec-items};
+ghost use Rattle.std.specs.declared.option.Option.the-variants.{None};
+ghost use Rattle.settling.specs.Begins.{Cleared};
+use visiting::trail::Trail;
+
+/// Sets every delay of a list to none.
+fn forget(list: &mut Vec<Option<u64>>)
+    ensures none { λ _. ⌜ ((u : ℕ) → getD (vec-items (now (list .exit))) u None ≡ None) ⌝ }
+    ensures size { λ _. ⌜ vec-len (now (list .exit)) ≡ vec-len (now (list .entry)) ⌝ }
+{
+    for i in 0..list.len() {
+        list[i] = None;
+    }
+}
+
+/// Sets every number of a list to 0.
+fn reset(list: &mut Vec<u64>)
+    ensures zero { λ _. ⌜ ((u : ℕ) → getD (vec-items (now (list .exit))) u 0 ≡ 0) ⌝ }
+    ensures size { λ _. ⌜ vec-len (now (list .exit)) ≡ vec-len (now (list .entry)) ⌝ }
+{
+    for i in 0..list.len() {
+        list[i] = 0;
+    }
+}
+
+/// Clears a trail: nothing is visited or expanded, and every counter is at 0.
+pub fn clear(trail: &mut Trail)
+    ensures { λ _. ⌜ Cleared (now (trail .entry)) (now (trail .exit)) ⌝ }
+{
+    forget(&mut trail.settled);
+    forget(&mut trail.base);
+    reset(&mut trail.count);
+}
