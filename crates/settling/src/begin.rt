@@ -3,7 +3,11 @@ ghost use Prim.Native.Nat.{ℕ, _<_};
 ghost use lib.ListN.{getD};
 ghost use Rattle.std.specs.Of.Vec.{vec-len, vec-items};
 ghost use Rattle.std.specs.declared.option.Option.the-variants.{None};
+ghost use Rattle.tree.specs.Tree.{Below};
+ghost use Rattle.map.specs.Means.{tree-of};
+ghost use Rattle.visiting.specs.Asks.{Walkable};
 ghost use Rattle.settling.specs.Begins.{Cleared};
+use map::map::Map;
 use visiting::trail::Trail;
 
 /// Sets every delay of a list to none.
@@ -33,4 +37,17 @@ pub fn clear(trail: &mut Trail)
     forget(&mut trail.settled);
     forget(&mut trail.base);
     reset(&mut trail.count);
+}
+
+/// The root that holds a station.
+pub fn root_of(map: &Map, station: u32) -> u32
+    requires { ⌜ Walkable (tree-of (now map)) ⌝ }
+    ensures holds { λ r. ⌜ Below (tree-of (now (map .entry))) station r ⌝ }
+    ensures top { λ r. ⌜ tree-of (now (map .entry)) .parent r ≡ None ⌝ }
+{
+    let mut x = station;
+    while let Some(p) = map.parent_of(x) {
+        x = p;
+    }
+    x
 }
