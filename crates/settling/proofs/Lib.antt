@@ -1,3 +1,4 @@
+pub mod Begins
 pub mod Kids
 pub mod Looks
 pub mod Stacks

@@ -1,13 +1,18 @@
 ghost use mathlib.Core.Path.{_≡_};
-ghost use Prim.Native.Nat.{ℕ, _<_};
+ghost use Prim.Native.Nat.{ℕ, _<_, _≤_};
 ghost use lib.ListN.{getD};
 ghost use Rattle.std.specs.Of.Vec.{vec-len, vec-items};
 ghost use Rattle.std.specs.declared.option.Option.the-variants.{None};
 ghost use Rattle.tree.specs.Tree.{Below};
+ghost use mathlib.Core.List.{[]};
+ghost use Rattle.walk.specs.Steps.{Blank};
 ghost use Rattle.map.specs.Means.{tree-of};
+ghost use Rattle.visiting.specs.Means.{core-of};
 ghost use Rattle.visiting.specs.Asks.{Walkable};
 ghost use Rattle.settling.specs.Begins.{Cleared};
+use keeper::Keeper;
 use map::map::Map;
+use shelf::Shelf;
 use visiting::trail::Trail;
 
 /// Sets every delay of a list to none.
@@ -50,4 +55,24 @@ pub fn root_of(map: &Map, station: u32) -> u32
         x = p;
     }
     x
+}
+
+/// Makes trail, shelf and keeper ready for a walk from the source: all are cleared, and the keeper has the source at 0.
+pub fn prepare<S: Shelf, K: Keeper>(
+    map: &Map,
+    trail: &mut Trail,
+    shelf: &mut S,
+    keeper: &mut K,
+    source: u32,
+)
+    requires tree { ⌜ Walkable (tree-of (now map)) ⌝ }
+    requires source { ⌜ source < now map .stations ⌝ }
+    requires places { ⌜ now map .stations ≤ K·Keeper .meaning (now keeper) .places ⌝ }
+    ensures { λ _. ⌜ Blank source (record { core = core-of (tree-of (now (map .entry))) (now (trail .exit)) (S·Shelf .meaning (now (shelf .exit))) (K·Keeper .meaning (now (keeper .exit))); frames = [] }) ⌝ }
+{
+    clear(trail);
+    shelf.clear();
+    keeper.clear();
+    let place = map.place_of(source);
+    keeper.lower(place, 0);
 }
