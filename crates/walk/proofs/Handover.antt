@@ -191,12 +191,10 @@ module _ {g : Network} {t : Tree} {src : ℕ} (given : Given g t src) (limit : m
       root-short : t .stations ≤ rooted (given .fits) src .root → t .spread (rooted (given .fits) src .root) ≤ m
       root-short big = let r = rooted (given .fits) src in spreads (r .root) (holder (given .fits) (given .station) big (r .below))
 
-      pub delays-short : (v d : ℕ) → s .core .final v ≡ Some d → d ≤ m
-      delays-short v d e = go (decLt (rooted (given .fits) src .root) (t .stations))
+      -- a least delay from the source is no longer than the spread of its root
+      pub least-short : (v d : ℕ) → Least g src v d → d ≤ m
+      least-short v d l = go (decLt (rooted (given .fits) src .root) (t .stations))
         where
-          l : Least g src v d
-          l = i .facts .delays .exact v d e
-
           go : Dec (rooted (given .fits) src .root < t .stations) → d ≤ m
           go (no big) = let n = near-root (omega arith) (l .attained) in omega (arith, l .least (n .links) (n .route), n .short, root-short (omega arith))
           go (yes small) =
@@ -205,6 +203,15 @@ module _ {g : Network} {t : Tree} {src : ℕ} (given : Given g t src) (limit : m
               station-only (given .fits) small (stay (given .fits) (r .top) (r .below) (l .attained .route)) ∙ sym
               (station-only (given .fits) small (r .below)) in
               omega (arith, l .least [] (subst (λ u. Route g src [] u) (sym q) here))
+
+      pub delays-short : (v d : ℕ) → s .core .final v ≡ Some d → d ≤ m
+      delays-short v d e = least-short v d (i .facts .delays .exact v d e)
+
+      -- nor is the delay of a station that is visited now
+      pub visiting-short : {v d k : ℕ} {s₁ : Core} → Visiting g t s v d k s₁ → d ≤ m
+      visiting-short {v} {d} vis =
+          let z = visiting-looking (given .fits) i vis in
+          least-short v d (z .facts .delays .exact v d (ap (λ (f : ℕ → Option ℕ). f v) (z .final) ∙ vis .call .final .at))
 
       pub counters-short : (x β : ℕ) → s .core .base x ≡ Some β → Open t (s .core .final) x → s .core .count x ≤ m
       counters-short x β e o =
