@@ -14,9 +14,9 @@ use Rattle.tree.specs.Tree.{Tree, Runs}
 use Rattle.walk.specs.Steps.{Blank}
 use Rattle.shelf.specs.Holds.{Holds, bucketAt, cleared}
 use Rattle.keeper.specs.Keeps.{Keeps, MayLower, delayAt, allNone, noted}
-use Rattle.visiting.specs.declared.trail.Trail.{Trail}
-use Rattle.visiting.specs.Means.{sofar-of, core-of}
-use Rattle.visiting.proofs.Keepers.{sofar-in, held, changed-noted}
+use Rattle.settling.specs.declared.trail.Trail.{Trail}
+use Rattle.settling.specs.Means.{sofar-of, core-of}
+use Rattle.settling.proofs.Keepers.{sofar-in, held, changed-noted}
 use Rattle.settling.specs.Begins.{Cleared}
 
 nowhere : (n i : ℕ) → _≡_ {A = Option ℕ} (getD (replicate n None) i None) None

@@ -16,9 +16,9 @@ use Rattle.walk.proofs.Handover.{placed-moved, puts-then, puts-few}
 use Rattle.walk.proofs.Keep.{puts-off}
 use Rattle.walk.proofs.Runs.{changed-set}
 use Rattle.shelf.specs.Holds.{Holds, bucketAt}
-use Rattle.visiting.specs.declared.trail.Trail.{Trail}
-use Rattle.visiting.specs.Means.{base-of, shelf-of, Opened}
-use Rattle.visiting.specs.Asks.{Brought}
+use Rattle.settling.specs.declared.trail.Trail.{Trail}
+use Rattle.settling.specs.Means.{base-of, shelf-of, Opened}
+use Rattle.settling.specs.Asks.{Brought}
 
 pub among-at : (xs : List ℕ) (i : ℕ) → i < length xs → Among (getD xs i 0) xs
 among-at [] i h = omega arith

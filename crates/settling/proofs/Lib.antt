@@ -1,6 +1,13 @@
 pub mod Begins
+pub mod Fronts
+pub mod Keepers
 pub mod Kids
 pub mod Looks
+pub mod Lowers
+pub mod Places
+pub mod Rooms
 pub mod Stacks
 pub mod Theory
+pub mod Trees
 pub mod Turns
+pub mod Visits

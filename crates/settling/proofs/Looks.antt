@@ -24,9 +24,9 @@ use Rattle.walk.proofs.Handover.{placed-moved}
 use Rattle.walk.proofs.Runs.{changed-set}
 use Rattle.shelf.specs.Holds.{Holds, Bare, bucketAt, lifted}
 use Rattle.keeper.specs.Keeps.{Keeps}
-use Rattle.visiting.specs.declared.trail.Trail.{Trail}
-use Rattle.visiting.specs.Means.{final-of, base-of, count-of, sofar-of, shelf-of, core-of}
-use Rattle.visiting.specs.Asks.{Brought}
+use Rattle.settling.specs.declared.trail.Trail.{Trail}
+use Rattle.settling.specs.Means.{final-of, base-of, count-of, sofar-of, shelf-of, core-of}
+use Rattle.settling.specs.Asks.{Brought}
 use Rattle.settling.specs.Parts.{Watch, Counting, Found-empty, Took}
 
 module _ (t : Tree) (s : Core) (f : Frame) (d : ℕ) (l : Lowest t (s .soFar) (f .node) d) (watch : Watch t (s .final) (s .soFar) (f .node)) where

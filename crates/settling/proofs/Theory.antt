@@ -18,9 +18,9 @@ use Rattle.walk.proofs.Handover.{able, visit-safe, visiting-short, counters-sho
 use Rattle.walk.proofs.Keep.{change}
 use Rattle.shelf.specs.Holds.{Holds}
 use Rattle.keeper.specs.Keeps.{Keeps}
-use Rattle.visiting.specs.declared.trail.Trail.{Trail}
-use Rattle.visiting.specs.Means.{final-of, count-of, sofar-of, shelf-of, core-of}
-use Rattle.visiting.specs.Asks.{Callable}
+use Rattle.settling.specs.declared.trail.Trail.{Trail}
+use Rattle.settling.specs.Means.{final-of, count-of, sofar-of, shelf-of, core-of}
+use Rattle.settling.specs.Asks.{Callable}
 
 module _ (g : Network) (t : Tree) (src n : ℕ) (w : Trail) (h : Holds) (k : Keeps) (f : Frame) (fs : List Frame) (given : Given g t src) (limit : most-moves g t < 65535)
     (walk : Walk g t src n (record { core = core-of t w h k; frames = f ∷ fs })) (spreads : (x : ℕ) → Inner t x → t .spread x ≤ 511 * 4294967295) where

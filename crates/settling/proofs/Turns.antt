@@ -24,9 +24,9 @@ use Rattle.walk.proofs.Runs.{changed-set}
 use Rattle.shelf.specs.Holds.{Holds, bucketAt}
 use Rattle.keeper.specs.Keeps.{Keeps}
 use Rattle.map.specs.declared.map.Map.{Map}
-use Rattle.visiting.specs.declared.trail.Trail.{Trail}
-use Rattle.visiting.specs.Means.{final-of, base-of, count-of, sofar-of, shelf-of, core-of, Settled-at, Risen, Opened}
-use Rattle.visiting.specs.Asks.{Room, Alike, Visited}
+use Rattle.settling.specs.declared.trail.Trail.{Trail}
+use Rattle.settling.specs.Means.{final-of, base-of, count-of, sofar-of, shelf-of, core-of, Settled-at, Risen, Opened}
+use Rattle.settling.specs.Asks.{Room, Alike, Visited}
 use Rattle.settling.specs.Parts.{Kids, Grown, Found-empty, Took}
 use Rattle.settling.specs.Turns.{Entered, beginning, again as entered-again, first as entered-first}
 use Rattle.settling.proofs.Kids.{opened-base}

@@ -3,8 +3,8 @@ use mathlib.Core.Path.{_≡_}
 use Prim.Native.Nat.{ℕ}
 use Rattle.std.specs.Of.Vec.{vec-len}
 use Rattle.std.specs.declared.option.Option.the-variants.{None}
-use Rattle.visiting.specs.declared.trail.Trail.{Trail}
-use Rattle.visiting.specs.Means.{final-of, base-of, count-of}
+use Rattle.settling.specs.declared.trail.Trail.{Trail}
+use Rattle.settling.specs.Means.{final-of, base-of, count-of}
 
 -- a trail was cleared, and is as large as it was
 pub record Cleared (w w′ : Trail) : Type 0 where

@@ -11,8 +11,8 @@ use Rattle.walk.specs.Rules.{Lowest, Nothing, Puts}
 use Rattle.walk.specs.Steps.{Open, Now, Taken}
 use Rattle.shelf.specs.Holds.{Holds, bucketAt}
 use Rattle.keeper.specs.Keeps.{Keeps}
-use Rattle.visiting.specs.declared.trail.Trail.{Trail}
-use Rattle.visiting.specs.Means.{base-of, sofar-of, shelf-of, Opened}
+use Rattle.settling.specs.declared.trail.Trail.{Trail}
+use Rattle.settling.specs.Means.{base-of, sofar-of, shelf-of, Opened}
 
 -- the children of x can be put: each is listed once, stands nowhere, and there is room in the shelf's count
 pub record Kids (t : Tree) (x : ℕ) (h : Holds) : Type 0 where

@@ -9,8 +9,8 @@ use Rattle.walk.specs.declared.frame.Frame.{Frame}
 use Rattle.walk.specs.Steps.{coarse}
 use Rattle.shelf.specs.Holds.{Holds}
 use Rattle.keeper.specs.Keeps.{Keeps}
-use Rattle.visiting.specs.declared.trail.Trail.{Trail}
-use Rattle.visiting.specs.Means.{base-of, count-of}
+use Rattle.settling.specs.declared.trail.Trail.{Trail}
+use Rattle.settling.specs.Means.{base-of, count-of}
 use Rattle.settling.specs.declared.turn.Turn.{Turn}
 use Rattle.settling.specs.declared.turn.Turn.the-variants.{Stay, Leave, Enter}
 use Rattle.settling.specs.Parts.{Grown}

@@ -7,13 +7,13 @@ ghost use Rattle.tree.specs.Tree.{Below};
 ghost use mathlib.Core.List.{[]};
 ghost use Rattle.walk.specs.Steps.{Blank};
 ghost use Rattle.map.specs.Means.{tree-of};
-ghost use Rattle.visiting.specs.Means.{core-of};
-ghost use Rattle.visiting.specs.Asks.{Walkable};
+ghost use Rattle.settling.specs.Means.{core-of};
+ghost use Rattle.settling.specs.Asks.{Walkable};
 ghost use Rattle.settling.specs.Begins.{Cleared};
+use super::trail::Trail;
 use keeper::Keeper;
 use map::map::Map;
 use shelf::Shelf;
-use visiting::trail::Trail;
 
 /// Sets every delay of a list to none.
 fn forget(list: &mut Vec<Option<u64>>)
@@ -36,7 +36,7 @@ fn reset(list: &mut Vec<u64>)
 }
 
 /// Clears a trail: nothing is visited or expanded, and every counter is at 0.
-pub fn clear(trail: &mut Trail)
+pub(crate) fn clear(trail: &mut Trail)
     ensures { λ _. ⌜ Cleared (now (trail .entry)) (now (trail .exit)) ⌝ }
 {
     forget(&mut trail.settled);
@@ -45,7 +45,7 @@ pub fn clear(trail: &mut Trail)
 }
 
 /// The root that holds a station.
-pub fn root_of(map: &Map, station: u32) -> u32
+pub(crate) fn root_of(map: &Map, station: u32) -> u32
     requires { ⌜ Walkable (tree-of (now map)) ⌝ }
     ensures holds { λ r. ⌜ Below (tree-of (now (map .entry))) station r ⌝ }
     ensures top { λ r. ⌜ tree-of (now (map .entry)) .parent r ≡ None ⌝ }
@@ -58,7 +58,7 @@ pub fn root_of(map: &Map, station: u32) -> u32
 }
 
 /// Makes trail, shelf and keeper ready for a walk from the source: all are cleared, and the keeper has the source at 0.
-pub fn prepare<S: Shelf, K: Keeper>(
+pub(crate) fn prepare<S: Shelf, K: Keeper>(
     map: &Map,
     trail: &mut Trail,
     shelf: &mut S,

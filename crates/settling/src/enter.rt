@@ -6,15 +6,15 @@ ghost use Rattle.tree.specs.Tree.{buckets-in-all};
 ghost use Rattle.walk.specs.Rules.{Nothing};
 ghost use Rattle.walk.specs.Steps.{coarse};
 ghost use Rattle.map.specs.Means.{tree-of};
-ghost use Rattle.visiting.specs.Means.{sofar-of, base-of, count-of};
-ghost use Rattle.visiting.specs.Asks.{Walkable};
+ghost use Rattle.settling.specs.Means.{sofar-of, base-of, count-of};
+ghost use Rattle.settling.specs.Asks.{Walkable};
 ghost use Rattle.settling.specs.Parts.{Kids};
 ghost use Rattle.settling.specs.Turns.{Entered};
 use super::grow::expand;
+use super::trail::Trail;
 use keeper::Keeper;
 use map::map::Map;
 use shelf::Shelf;
-use visiting::trail::Trail;
 use walk::frame::Frame;
 
 /// The visit of a child of `p` that begins now.
@@ -27,7 +27,7 @@ fn frame_of(map: &Map, trail: &Trail, node: u32, p: u32) -> Frame
 }
 
 /// Begins a visit of a child of `p`, which was taken: it is expanded if it was not.
-pub fn enter<S: Shelf, K: Keeper>(
+pub(crate) fn enter<S: Shelf, K: Keeper>(
     map: &Map,
     trail: &mut Trail,
     shelf: &mut S,

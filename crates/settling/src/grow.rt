@@ -6,17 +6,17 @@ ghost use Rattle.tree.specs.Tree.{buckets-in-all};
 ghost use Rattle.walk.specs.Rules.{Puts, Nothing};
 ghost use Rattle.walk.specs.Able.{Ready};
 ghost use Rattle.map.specs.Means.{tree-of};
-ghost use Rattle.visiting.specs.Means.{sofar-of, base-of, shelf-of};
-ghost use Rattle.visiting.specs.Asks.{Walkable};
+ghost use Rattle.settling.specs.Means.{sofar-of, base-of, shelf-of};
+ghost use Rattle.settling.specs.Asks.{Walkable};
 ghost use Rattle.settling.specs.Parts.{Kids, Grown};
+use super::place::bring;
+use super::trail::Trail;
 use keeper::Keeper;
 use map::map::Map;
 use shelf::Shelf;
-use visiting::place::bring;
-use visiting::trail::Trail;
 
 /// Puts the children of a node where they belong, in their order.
-pub fn put_children<S: Shelf, K: Keeper>(
+pub(crate) fn put_children<S: Shelf, K: Keeper>(
     map: &Map,
     trail: &Trail,
     shelf: &mut S,
@@ -41,7 +41,7 @@ pub fn put_children<S: Shelf, K: Keeper>(
 }
 
 /// Expands a node: its base and its counter become its least in the width of its buckets, and its children are put.
-pub fn expand<S: Shelf, K: Keeper>(
+pub(crate) fn expand<S: Shelf, K: Keeper>(
     map: &Map,
     trail: &mut Trail,
     shelf: &mut S,

@@ -1,10 +1,16 @@
-//! The settling walk, over any shelf and any keeper. Each contract is a step of the relation of crate `walk`, or a part of one, between what
-//! trail, shelf and keeper stand for before and after.
+//! The settling walk, over any shelf and any keeper. Each contract is a rule or a step of the relation of crate `walk`, or a part of one,
+//! between what trail, shelf and keeper stand for before and after. (The entry point, which makes ready, visits the root and runs on to the
+//! end, is still to come, so nothing here is open to other crates yet.)
 
-pub mod begin;
-pub mod enter;
-pub mod grow;
-pub mod look;
-pub mod run;
-pub mod step;
-pub mod turn;
+mod begin;
+mod enter;
+mod follow;
+mod grow;
+mod look;
+mod place;
+mod run;
+mod step;
+mod trail;
+mod trail_asks;
+mod turn;
+mod visit;

@@ -11,18 +11,18 @@ ghost use Rattle.walk.specs.Steps.{Going, Ended, Step};
 ghost use Rattle.walk.specs.Able.{Ready};
 ghost use Rattle.shelf.specs.Holds.{Holds, bucketAt};
 ghost use Rattle.map.specs.Means.{tree-of};
-ghost use Rattle.visiting.specs.Means.{final-of, sofar-of, base-of, core-of};
-ghost use Rattle.visiting.specs.Asks.{Walkable};
+ghost use Rattle.settling.specs.Means.{final-of, sofar-of, base-of, core-of};
+ghost use Rattle.settling.specs.Asks.{Walkable};
 ghost use Rattle.settling.specs.Parts.{Watch, Counting, Found-empty, Took};
+use super::place::bring;
+use super::trail::Trail;
 use keeper::Keeper;
 use map::map::Map;
 use shelf::Shelf;
-use visiting::place::bring;
-use visiting::trail::Trail;
 use walk::frame::Frame;
 
 /// Whether the visit `f` goes on: its node has an unvisited station, and its counter is still in the bucket of the parent in which it was.
-pub fn goes_on<K: Keeper>(map: &Map, trail: &Trail, keeper: &K, f: Frame) -> bool
+pub(crate) fn goes_on<K: Keeper>(map: &Map, trail: &Trail, keeper: &K, f: Frame) -> bool
     requires listed { ⌜ f .node < now map .nodes ⌝ }
     requires tree { ⌜ Walkable (tree-of (now map)) ⌝ }
     requires watch { ⌜ Watch (tree-of (now map)) (final-of (now trail)) (sofar-of (tree-of (now map)) (K·Keeper .meaning (now keeper))) (f .node) ⌝ }
@@ -43,7 +43,13 @@ pub fn goes_on<K: Keeper>(map: &Map, trail: &Trail, keeper: &K, f: Frame) -> boo
 }
 
 /// Ends the visit `f`: a child is put where it belongs, a root is not. Whatever visits are under way below it, this is a step.
-pub fn leave<S: Shelf, K: Keeper>(map: &Map, trail: &Trail, shelf: &mut S, keeper: &K, f: Frame)
+pub(crate) fn leave<S: Shelf, K: Keeper>(
+    map: &Map,
+    trail: &Trail,
+    shelf: &mut S,
+    keeper: &K,
+    f: Frame,
+)
     requires listed { ⌜ f .node < now map .nodes ⌝ }
     requires tree { ⌜ Walkable (tree-of (now map)) ⌝ }
     requires items { ⌜ now map .nodes ≤ S·Shelf .meaning (now shelf) .items ⌝ }
@@ -65,7 +71,7 @@ pub fn leave<S: Shelf, K: Keeper>(map: &Map, trail: &Trail, shelf: &mut S, keepe
 }
 
 /// Takes an item from the bucket at which the counter of the node stands.
-pub fn take_next<S: Shelf, K: Keeper>(
+pub(crate) fn take_next<S: Shelf, K: Keeper>(
     map: &Map,
     trail: &Trail,
     shelf: &mut S,

@@ -7,17 +7,17 @@ ghost use Rattle.walk.specs.declared.frame.Frame.{Frame as FrameOf};
 ghost use Rattle.walk.specs.Steps.{Walk};
 ghost use Rattle.walk.specs.Laws.{Run};
 ghost use Rattle.map.specs.Means.{tree-of};
-ghost use Rattle.visiting.specs.Means.{network-of, core-of};
-ghost use Rattle.visiting.specs.Asks.{Charted, Room, Alike};
+ghost use Rattle.settling.specs.Means.{network-of, core-of};
+ghost use Rattle.settling.specs.Asks.{Charted, Room, Alike};
 ghost use Rattle.settling.specs.Turns.{after};
 use super::step::step;
+use super::trail::Trail;
 use super::turn::Turn;
 use keeper::Keeper;
 use map::map::Map;
 use network::row::Row;
 use shelf::Shelf;
 use stack::Stack;
-use visiting::trail::Trail;
 use walk::frame::Frame;
 
 /// Does to the visits under way what a step says.
@@ -39,7 +39,7 @@ fn turn_to<'a>(frames: &mut Stack<'a, Frame>, turn: Turn)
 }
 
 /// Takes steps until no visit is under way.
-pub fn run_on<'a, S: Shelf, K: Keeper>(
+pub(crate) fn run_on<'a, S: Shelf, K: Keeper>(
     rows: &[Row],
     service: &[bool],
     map: &Map,

@@ -6,24 +6,24 @@ ghost use Rattle.walk.specs.Steps.{Open, Going, Taken, Step};
 ghost use Rattle.walk.specs.Able.{Able};
 ghost use Rattle.shelf.specs.Holds.{Holds};
 ghost use Rattle.map.specs.Means.{tree-of};
-ghost use Rattle.visiting.specs.Means.{network-of, final-of, count-of, shelf-of, core-of};
-ghost use Rattle.visiting.specs.Asks.{Charted, Room, Alike, Callable};
+ghost use Rattle.settling.specs.Means.{network-of, final-of, count-of, shelf-of, core-of};
+ghost use Rattle.settling.specs.Asks.{Charted, Room, Alike, Callable};
 ghost use Rattle.settling.specs.Turns.{after};
 use super::enter::enter;
 use super::look::goes_on;
 use super::look::leave;
 use super::look::take_next;
+use super::trail::Trail;
 use super::turn::Turn;
+use super::visit::visit_station;
 use keeper::Keeper;
 use map::map::Map;
 use network::row::Row;
 use shelf::Shelf;
-use visiting::trail::Trail;
-use visiting::visit::visit_station;
 use walk::frame::Frame;
 
 /// Takes one step of the walk, whose innermost visit is `f`, and tells what becomes of the visits under way.
-pub fn step<S: Shelf, K: Keeper>(
+pub(crate) fn step<S: Shelf, K: Keeper>(
     rows: &[Row],
     service: &[bool],
     map: &Map,

@@ -2,7 +2,7 @@ use native.Mathlib.Omega.{arith}
 use mathlib.Core.Path.{_≡_, sym}
 use Prim.Native.Nat.{_<_}
 use Rattle.map.specs.Means.{tree-of}
-use Rattle.visiting.proofs.Places.{granted}
+use Rattle.settling.proofs.Places.{granted}
 use Rattle.settling.proofs.Begins.{blank, may-lower}
 use Rattle.settling.proofs.begin.prepare.Needs as need
 

@@ -1,7 +1,7 @@
 use native.Mathlib.Omega.{arith}
 use mathlib.Core.Path.{sym}
 use Rattle.tree.specs.Tree.{self}
-use Rattle.visiting.proofs.Fronts.{climb}
+use Rattle.settling.proofs.Fronts.{climb}
 use Rattle.settling.proofs.begin.root_of.Needs as need
 
 pub loop-p-holds : need.loop-p-holds

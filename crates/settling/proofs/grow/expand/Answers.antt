@@ -5,8 +5,8 @@ use lib.ListN.{length}
 use Rattle.std.specs.Of.Vec.{vec-items}
 use Rattle.walk.proofs.Handover.{child-ready}
 use Rattle.map.specs.Means.{tree-of}
-use Rattle.visiting.specs.Means.{Opened}
-use Rattle.visiting.proofs.Keepers.{lowest-of, nothing-of}
+use Rattle.settling.specs.Means.{Opened}
+use Rattle.settling.proofs.Keepers.{lowest-of, nothing-of}
 use Rattle.settling.proofs.Kids.{opened-base}
 use Rattle.settling.proofs.grow.expand.Needs as need
 

@@ -7,8 +7,8 @@ use Rattle.std.proofs.shelf.Lists.{take-all}
 use Rattle.std.specs.declared.option.Option.the-variants.{Some}
 use Rattle.walk.specs.Rules.{Puts, done}
 use Rattle.map.specs.Means.{tree-of}
-use Rattle.visiting.specs.Means.{sofar-of, base-of, shelf-of}
-use Rattle.visiting.specs.Asks.{Brought}
+use Rattle.settling.specs.Means.{sofar-of, base-of, shelf-of}
+use Rattle.settling.specs.Asks.{Brought}
 use Rattle.settling.proofs.Kids.{among-at, still-few, next-child}
 use Rattle.settling.proofs.grow.put_children.Needs as need
 

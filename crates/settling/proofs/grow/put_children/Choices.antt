@@ -2,7 +2,7 @@ use mathlib.Core.Path.{_≡_}
 use lib.ListN.{take}
 use Rattle.walk.specs.Rules.{Puts}
 use Rattle.map.specs.Means.{tree-of}
-use Rattle.visiting.specs.Means.{sofar-of, base-of, shelf-of}
+use Rattle.settling.specs.Means.{sofar-of, base-of, shelf-of}
 use Rattle.settling.proofs.grow.put_children.Given as given
 
 abbrev pub Inv-loop-i : given.InvT-loop-i

@@ -3,7 +3,7 @@ use mathlib.Core.Path.{_≡_, refl, sym, _∙_, ap}
 use Prim.Native.Nat.{_/_, _^_}
 use Rattle.walk.specs.Steps.{through}
 use Rattle.map.specs.Means.{tree-of}
-use Rattle.visiting.proofs.Keepers.{lowest-of, nothing-of}
+use Rattle.settling.proofs.Keepers.{lowest-of, nothing-of}
 use Rattle.settling.proofs.Looks.{going-root, decided}
 use Rattle.settling.proofs.look.goes_on.Needs as need
 

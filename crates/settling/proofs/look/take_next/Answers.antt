@@ -3,7 +3,7 @@ use mathlib.Core.Path.{_≡_, refl, sym, _∙_, ap}
 use Prim.Native.Nat.{ℕ, _+_, _-_, _≤_}
 use Rattle.tree.proofs.Words.{some-none, same-some}
 use Rattle.map.specs.Means.{tree-of}
-use Rattle.visiting.specs.Means.{count-of}
+use Rattle.settling.specs.Means.{count-of}
 use Rattle.settling.proofs.Looks.{looked}
 use Rattle.settling.proofs.look.take_next.Needs as need
 

@@ -10,8 +10,8 @@ use Rattle.walk.specs.Laws.{Given, in-service}
 use Rattle.walk.proofs.Handover.{able, depth, small-enough}
 use Rattle.walk.proofs.Ledger.{ends}
 use Rattle.map.specs.Means.{tree-of}
-use Rattle.visiting.specs.Means.{network-of, core-of}
-use Rattle.visiting.proofs.Rooms.{alike-then}
+use Rattle.settling.specs.Means.{network-of, core-of}
+use Rattle.settling.proofs.Rooms.{alike-then}
 use Rattle.settling.specs.Turns.{after}
 use Rattle.settling.proofs.Stacks.{downward-length}
 use Rattle.settling.proofs.Theory.{callable, short, walked-on}

@@ -5,8 +5,8 @@ use Rattle.stack.specs.Stacked.{downward}
 use Rattle.walk.specs.Steps.{Walk}
 use Rattle.walk.specs.Laws.{in-service}
 use Rattle.map.specs.Means.{tree-of}
-use Rattle.visiting.specs.Means.{network-of, core-of}
-use Rattle.visiting.specs.Asks.{Room, Alike}
+use Rattle.settling.specs.Means.{network-of, core-of}
+use Rattle.settling.specs.Asks.{Room, Alike}
 use Rattle.settling.proofs.run.run_on.Given as given
 
 abbrev pub Inv-loop-f : given.InvT-loop-f

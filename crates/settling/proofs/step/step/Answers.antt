@@ -8,10 +8,10 @@ use Rattle.std.specs.Of.Vec.{vec-len, vec-items}
 use Rattle.std.specs.declared.option.Option.the-variants.{Some, None}
 use Rattle.shelf.specs.Holds.{Holds}
 use Rattle.map.specs.Means.{tree-of}
-use Rattle.visiting.specs.Means.{network-of, core-of}
-use Rattle.visiting.proofs.Trees.{walkable}
-use Rattle.visiting.proofs.Rooms.{room-alike, alike-then}
-use Rattle.visiting.proofs.Visits.{room-settled}
+use Rattle.settling.specs.Means.{network-of, core-of}
+use Rattle.settling.proofs.Trees.{walkable}
+use Rattle.settling.proofs.Rooms.{room-alike, alike-then}
+use Rattle.settling.proofs.Visits.{room-settled}
 use Rattle.settling.proofs.Turns.{is-going, is-ended, step-rise, step-visit, step-enter, due, kids-of, room-took, room-risen, room-entered, alike-entered}
 use Rattle.settling.proofs.step.step.Needs as need
 
