@@ -19,6 +19,7 @@ tree-of m = record {
   parent = λ x. getD (vec-items (m .parent)) x None;
   children = λ x. part (vec-items (m .children)) (getD (vec-items (m .from)) x 0) (getD (vec-items (m .many)) x 0);
   level = λ x. getD (vec-items (m .level)) x 0;
+  lowest = λ x. getD (vec-items (m .lowest)) x 0;
   spread = λ x. getD (vec-items (m .spread)) x 0;
   buckets = λ x. getD (vec-items (m .buckets)) x 0;
   first = λ x. getD (vec-items (m .first)) x 0;

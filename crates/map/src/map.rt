@@ -2,7 +2,7 @@ ghost use Prim.Native.Nat.{ℕ, _+_, _*_, _<_, _≤_, _^_};
 ghost use lib.ListN.{getD};
 ghost use Rattle.std.specs.Of.Vec.{vec-items};
 
-/// The tree over the stations, by node: its parent, its level, its spread, its buckets and their first, its run of places, and its
+/// The tree over the stations, by node: its parent, its level, its lowest station, its spread, its buckets and their first, its run of places, and its
 /// children, which stand in `children` from `from` on, so `many` of them. By station: its place. Which tree it is, and whether it fits a
 /// network, is said in the words of crate `tree`; the facts here are only that the numbers are small.
 #[derive(Drop)]
@@ -11,6 +11,7 @@ pub struct Map {
     pub nodes: u32,
     pub parent: Vec<Option<u32>>,
     pub level: Vec<u32>,
+    pub lowest: Vec<u32>,
     pub spread: Vec<u64>,
     pub buckets: Vec<u32>,
     pub first: Vec<u32>,
