@@ -1,3 +1,5 @@
+pub mod Beginning
+pub mod Forming
 pub mod Linking
 pub mod Looking
 pub mod Merging

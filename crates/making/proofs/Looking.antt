@@ -17,7 +17,7 @@ use Rattle.making.specs.Labels.{label-of}
 use Rattle.making.proofs.Linking.{link-skipped, link-inside, link-joins, sum-fits}
 use Rattle.making.proofs.Merging.{label-read}
 
-clash : (v : Bool) → v ≡ true → v ≡ false → ⊥
+pub clash : (v : Bool) → v ≡ true → v ≡ false → ⊥
 clash v p q = let z : _≡_ {A = ℕ} 0 1 = cc in omega arith
 
 module _ {g : Network} {i k : ℕ} {label sums : List ℕ} (fit : Fit g) (w : Grown g (Past g i k) label sums) (listed : k < length (g .rows)) where

@@ -1,4 +1,8 @@
 //! The making of the component tree, level by level, over memory that is lent.
 
+pub mod begin;
+pub mod forms;
 pub mod joins;
+pub mod keep;
+pub mod measures;
 pub mod relabel;
