@@ -3,3 +3,4 @@ pub mod Forming
 pub mod Linking
 pub mod Looking
 pub mod Merging
+pub mod Numbering

@@ -5,4 +5,5 @@ pub mod forms;
 pub mod joins;
 pub mod keep;
 pub mod measures;
+pub mod numbers;
 pub mod relabel;
