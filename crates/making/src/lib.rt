@@ -4,6 +4,7 @@ pub mod begin;
 pub mod forms;
 pub mod joins;
 pub mod keep;
+pub mod levels;
 pub mod measures;
 pub mod numbers;
 pub mod relabel;
