@@ -36,3 +36,31 @@ pub(crate) fn grow_level(
     join_level(rows, up, done, label, sums);
     number_level(old, label, done, nodes, level, lowest)
 }
+
+/// Goes through all 32 levels, from the stations by themselves on. Returns how many nodes there are.
+pub(crate) fn grow_levels(
+    rows: &[Row],
+    up: &[bool],
+    old: &mut [u32],
+    label: &mut [u32],
+    sums: &mut [u64],
+    nodes: usize,
+    level: &mut [u32],
+    lowest: &mut [u32],
+) -> usize
+    requires fit { ⌜ Fit (network-of (length (now label)) (now rows) (now up)) ⌝ }
+    requires few { ⌜ Few (network-of (length (now label)) (now rows) (now up)) (length (now level)) ⌝ }
+    requires alike { ⌜ (length (now old) ≡ length (now label)) × (length (now label) ≤ 512) ⌝ }
+    requires room { ⌜ (length (now lowest) ≡ length (now level)) × (nodes ≤ length (now level)) ⌝ }
+    requires grown { ⌜ Grown (network-of (length (now label)) (now rows) (now up)) (Small (network-of (length (now label)) (now rows) (now up)) 0) (now label) (now sums) ⌝ }
+    requires numbered { ⌜ Numbered (network-of (length (now label)) (now rows) (now up)) 0 0 nodes (now level) (now lowest) ⌝ }
+    ensures grown { λ _. ⌜ Grown (network-of (length (now (label .entry))) (now (rows .entry)) (now (up .entry))) (Small (network-of (length (now (label .entry))) (now (rows .entry)) (now (up .entry))) 32) (now (label .exit)) (now (sums .exit)) ⌝ }
+    ensures numbered { λ r. ⌜ Numbered (network-of (length (now (label .entry))) (now (rows .entry)) (now (up .entry))) 32 0 r (now (level .exit)) (now (lowest .exit)) ⌝ }
+    ensures room { λ r. ⌜ r ≤ length (now (level .entry)) ⌝ }
+{
+    let mut next = nodes;
+    for done in 0..32 {
+        next = grow_level(rows, up, done, old, label, sums, next, level, lowest);
+    }
+    next
+}
