@@ -37,7 +37,8 @@ pub(crate) fn join_link(
     ensures grown { λ _. ⌜ Grown (network-of (length (now (label .entry))) (now (rows .entry)) (now (up .entry))) (Past (network-of (length (now (label .entry))) (now (rows .entry)) (now (up .entry))) done (suc k)) (now (label .exit)) (now (sums .exit)) ⌝ }
 {
     let row = rows[k];
-    if !up[k] || level(row.ns) != done + 1 {
+    let served = up[k];
+    if !served || level(row.ns) != done + 1 {
         return;
     }
     let a = label[row.from as usize];

@@ -9,18 +9,18 @@ use Rattle.network.specs.Network.{Network, row, delay}
 use Rattle.making.specs.Joins.{network-of}
 use Rattle.making.proofs.Looking.{from-station, to-station, read-low, sums-fit, look-withdrawn, look-other, look-inside, look-joins, look-joins-back}
 use Rattle.making.proofs.joins.join_link.Needs as need
-use Rattle.making.proofs.joins.join_link.Needs.{then-not-up-k·by·then-not-up-k, then-not-up-k·by·else-not-up-k·then-level-done}
+use Rattle.making.proofs.joins.join_link.Needs.{then-not-served·by·then-not-served, then-not-served·by·else-not-served·then-level-done}
 
 level-is : (ns i j : ℕ) → IsLevel ns j → j ≡ i + 1 → IsLevel ns (suc i)
 level-is ns i j l e = let f : j ≡ suc i = omega arith in subst (IsLevel ns) f l
 
-pub returns-then-not-up-k : need.returns-then-not-up-k
-returns-then-not-up-k c =
+pub returns-then-not-served : need.returns-then-not-served
+returns-then-not-served c =
     let p = c .pre in
     record {
-      grown = elim (c .then-not-up-k .came) [
-        | then-not-up-k·by·then-not-up-k w ↦ look-withdrawn (p .fit) (p .grown) (p .low .1) (w .if-not-up-k .taken)
-        | then-not-up-k·by·else-not-up-k·then-level-done w ↦
+      grown = elim (c .then-not-served .came) [
+        | then-not-served·by·then-not-served w ↦ look-withdrawn (p .fit) (p .grown) (p .low .1) (w .if-not-served .taken)
+        | then-not-served·by·else-not-served·then-level-done w ↦
             look-other (p .fit) (p .grown) (p .low .1) (w .level .result) (w .level .ensures .delay (p .fit .proper (c .args .k) (p .low .1) .2)) (w .if-level-done .taken)
       ];
     }
@@ -50,17 +50,17 @@ returns-then-a-b c =
     let p = c .pre in
     let j = c .join-groups .ensures in
     let level = level-is _ (c .args .done) (c .level .result) (c .level .ensures .delay (p .fit .proper (c .args .k) (p .low .1) .2)) (c .if-level-done .left) in
-    record { grown = rw (j .sums) (look-joins (p .fit) (p .grown) (p .low .1) (c .if-not-up-k .left) level (c .join-groups .last .label) (c .if-a-b .taken) (j .merged) (j .size)) }
+    record { grown = rw (j .sums) (look-joins (p .fit) (p .grown) (p .low .1) (c .if-not-served .left) level (c .join-groups .last .label) (c .if-a-b .taken) (j .merged) (j .size)) }
 
 pub returns-then-b-a : need.returns-then-b-a
 returns-then-b-a c =
     let p = c .pre in
     let j = c .join-groups-then-b-a .ensures in
     let level = level-is _ (c .args .done) (c .level .result) (c .level .ensures .delay (p .fit .proper (c .args .k) (p .low .1) .2)) (c .if-level-done .left) in
-    record { grown = rw (j .sums) (look-joins-back (p .fit) (p .grown) (p .low .1) (c .if-not-up-k .left) level (c .join-groups-then-b-a .last .label) (c .if-b-a .taken) (j .merged) (j .size)) }
+    record { grown = rw (j .sums) (look-joins-back (p .fit) (p .grown) (p .low .1) (c .if-not-served .left) level (c .join-groups-then-b-a .last .label) (c .if-b-a .taken) (j .merged) (j .size)) }
 
 pub returns-else-b-a : need.returns-else-b-a
 returns-else-b-a c =
     let p = c .pre in
     let level = level-is _ (c .args .done) (c .level .result) (c .level .ensures .delay (p .fit .proper (c .args .k) (p .low .1) .2)) (c .if-level-done .left) in
-    record { grown = look-inside (p .fit) (p .grown) (p .low .1) (c .if-not-up-k .left) level (omega (arith, c .if-a-b .left, c .if-b-a .left)) }
+    record { grown = look-inside (p .fit) (p .grown) (p .low .1) (c .if-not-served .left) level (omega (arith, c .if-a-b .left, c .if-b-a .left)) }
