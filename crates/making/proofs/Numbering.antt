@@ -2,12 +2,13 @@
 use mathlib.Core.Path.{_≡_, refl, sym, subst, _∙_}
 use mathlib.Core.List.{List}
 use mathlib.Core.Logic.{_⊎_, inl, inr, _≢_}
-use Prim.Native.Nat.{ℕ, suc, _+_, _≤_, _<_}
+use Prim.Native.Nat.{ℕ, suc, _+_, _≤_, _<_, _^_}
 use native.Mathlib.Omega.{arith}
 use native.Mathlib.Decide.{ℕ-discrete, decLt, decLe}
 use lib.ListN.{length, getD, set}
 use lib.Seq.{getD-set-same, getD-set-other}
-use Rattle.network.specs.Network.{Network}
+use Rattle.network.specs.Network.{Network, Proper, Route, here, step, Each, none, and, Small, Under}
+use Rattle.network.proofs.Routes.{hop-delay}
 use Rattle.tree.specs.Components.{Forms}
 use Rattle.tree.specs.Joining.{Earlier}
 use Rattle.making.specs.Numbers.{Passed, Placed, Numbered}
@@ -112,3 +113,24 @@ level-numbered {g} {i} {n} {level} {lowest} s all w =
     every : (j r : ℕ) → Passed (suc i) 0 j r → Forms g j r → Placed g n level lowest j r
     every j r (inl h) f = elim (decLe j i) [ yes l ↦ w .every j r (inl l) f | no l ↦ w .every j r (inr (omega arith, omega (arith, f .station))) f ]
     every j r (inr h) f = absurd (omega (arith, h .1))
+
+-- before the first level there are the stations alone: links under 1 ns lead nowhere
+pub stations-numbered : {g : Network} → Proper g → (n : ℕ) → n ≡ g .stations → (level lowest : List ℕ) → Numbered g 0 0 n level lowest
+stations-numbered {g} proper n all level lowest =
+    record {
+      stations = omega arith;
+      forms = λ x a b. absurd (omega arith);
+      past = λ x a b. absurd (omega arith);
+      every = λ j r. elim [ inl h ↦ (λ f. absurd (no-group j r h f)) | inr h ↦ (λ f. absurd (omega (arith, h .1))) ];
+      order = λ x y a b k. absurd (omega arith);
+    }
+  where
+    stay : {u v : ℕ} {ks : List ℕ} → Route g u ks v → Each (Small g 0) ks → u ≡ v
+    stay here e = refl
+    stay (step h p) (and s e) = absurd (let one : 2 ^ 0 ≡ 1 = refl in omega (arith, s .under, hop-delay proper h))
+
+    no-group : (j r : ℕ) → j ≤ 0 → Forms g j r → ⊥
+    no-group j r h f =
+        let z : j ≡ 0 = omega arith in
+        let u : Under g 0 r (f .other) = subst (λ i. Under g i r (f .other)) z (f .joint .joined) in
+        f .two (sym (stay (u .route) (u .each)))

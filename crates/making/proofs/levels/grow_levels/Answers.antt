@@ -22,7 +22,7 @@ grow-level-next-requires c κs =
     record {
       fit = subst (λ m. Fit (network-of m rows up)) back (p .fit);
       few = subst (λ m. Few (network-of m rows up) (length (c .loop-done .level))) back (subst (Few (network-of (length (c .args .label .now)) rows up)) (sym (w .levels)) (p .few));
-      alike = (w .kept ∙ back, omega (arith, back, p .alike .1), c .loop-done-test .taken);
+      alike = (w .kept ∙ back, omega (arith, back, p .alike .1), omega (arith, c .loop-done-test .taken));
       room = (w .lowests ∙ sym (w .levels), omega (arith, w .below, w .levels));
       grown = subst (λ m. Grown (network-of m rows up) (Small (network-of m rows up) (c .loop-done .done)) (c .loop-done .label) (c .loop-done .sums)) back (w .grown);
       numbered = subst (λ m. Numbered (network-of m rows up) (c .loop-done .done) 0 (c .loop-done .next) (c .loop-done .level) (c .loop-done .lowest)) back (w .numbered);
