@@ -1,0 +1,4 @@
+pub mod Joins
+pub mod Labels
+pub mod Levelled
+pub mod Numbers
