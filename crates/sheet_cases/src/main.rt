@@ -122,6 +122,10 @@ fn tables(rt: &LibcRuntime) -> Result<(), AnyError> {
         b"book;stations\n7;5\n\n\nfrom;to;ns;state\n",
         4,
     )?;
+    Ok(())
+}
+
+fn last_lines(rt: &LibcRuntime) -> Result<(), AnyError> {
     links(rt, "no link", b"", 4)?;
     show(
         rt,
@@ -215,6 +219,7 @@ fn main(rt: LibcRuntime) -> Result<(), AnyError> {
     words(&rt)?;
     lines(&rt)?;
     tables(&rt)?;
+    last_lines(&rt)?;
     books(&rt)?;
     lengths(&rt)?;
     sizes(&rt)?;
