@@ -1,6 +1,8 @@
 //! Compares the shelves with one another and the keepers with one another, call by call, on random calls. With an argument it
 //! prints how long each of them takes instead.
 
+#![tactic(auto)]
+
 mod calls;
 mod compare;
 mod random;

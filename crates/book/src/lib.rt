@@ -1,5 +1,7 @@
 //! The book: opening, permits, links out of service.
 
+#![tactic(auto)]
+
 pub mod asks;
 pub mod book;
 pub mod changes;

@@ -1,5 +1,7 @@
 //! Histories of books, played by the library: each prints the numbers of the refusals that came, 0 where a call was granted.
 
+#![tactic(auto)]
+
 use book::book::Book;
 use book::permit::Permit;
 use book::refusal::PermitRefusal;

@@ -1,6 +1,8 @@
 //! The program: reads a sheet from standard input, opens its book, takes the links that are off out of service for good, and prints
 //! the book's links with their levels; or prints the sheet's first fault.
 
+#![tactic(auto)]
+
 use anyhow::anyhow;
 use book::book::Book;
 use book::refusal::Refusal;

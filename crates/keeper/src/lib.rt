@@ -1,6 +1,8 @@
 //! Keepers: delays at numbered places, of which the smallest over a run of places can be asked (the field speaks of range minimum
 //! queries with point updates). The trait says what every keeper does; a table is one.
 
+#![tactic(auto)]
+
 pub mod lesser;
 pub mod table;
 pub mod table_keeper;

@@ -1,5 +1,7 @@
 //! The making of the component tree, level by level, over memory that is lent.
 
+#![tactic(auto)]
+
 pub mod begin;
 pub mod forms;
 pub mod joins;

@@ -1,6 +1,8 @@
 //! The network of relay stations: rows as they are given, link records made from them, levels of delays, and the laws of
 //! the words that specs/ defines (routes, least delays, groups).
 
+#![tactic(auto)]
+
 pub mod laws;
 pub mod level;
 pub mod link;

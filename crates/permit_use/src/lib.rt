@@ -1,4 +1,7 @@
 //! A client of the book that spends every permit it gets. Its must-fail edits let one fall.
+
+#![tactic(auto)]
+
 ghost use Rattle.std.specs.Prelude.{◌≡◌, true, false, slice_index_or};
 ghost use Rattle.book.specs.Matter.{matter, In, Struck};
 

@@ -2,6 +2,8 @@
 //! between what trail, shelf and keeper stand for before and after. (The entry point, which makes ready, visits the root and runs on to the
 //! end, is still to come, so nothing here is open to other crates yet.)
 
+#![tactic(auto)]
+
 mod begin;
 mod enter;
 mod follow;

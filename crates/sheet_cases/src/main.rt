@@ -1,5 +1,7 @@
 //! Sheets, good and damaged, read by the library: each prints how many links were read, and the head or the fault.
 
+#![tactic(auto)]
+
 use network::row::Row;
 use text::read::read_sheet;
 use text::sheet::SheetLink;

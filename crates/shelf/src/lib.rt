@@ -1,6 +1,8 @@
 //! Shelves, which the field calls bucket queues: items that stand in numbered buckets or nowhere. The trait says what every shelf
 //! does; a shelf of marks is one.
 
+#![tactic(auto)]
+
 pub mod marks;
 pub mod marks_shelf;
 

@@ -1,5 +1,7 @@
 //! A stack over a borrowed slice, for elements of any type that is `Copy`.
 
+#![tactic(auto)]
+
 ghost use Rattle.std.specs.Prelude.{◌≡◌, ◌-◌, ◌<◌, ◌≤◌, true, false, length, MatchOption, ◌==◌};
 ghost use Rattle.stack.specs.Stacked.{Pushed, Popped};
 

@@ -1,5 +1,7 @@
 //! Sheets as text: lines, words and tables, read with their positions.
 
+#![tactic(auto)]
+
 mod due;
 mod heading;
 pub mod laws;

@@ -2,10 +2,10 @@ use Rattle.std.proofs.Common.{◌≡◌, ◌<◌, length, vec_items, vec_len, ar
 use Rattle.shelf.proofs.Seats.{all_none, inside_lifted}
 use Rattle.shelf.proofs.marks_shelf.MarksShelf.clear.Goals as goal
 
-pub invariant-of-self : goal.invariant-of-self
-invariant-of-self c =
+pub invariant_of-self : goal.invariant_of-self
+invariant_of-self c =
     let s = c.loop-item.self in
-    (search rules, (inside_lifted (vec_items s.marks) s.buckets c.loop-item.item s.inside, (search rules, tt)))
+    record { few = search rules; inside = inside_lifted (vec_items s.marks) s.buckets c.loop-item.item s.inside; counted = search rules }
 
 pub returns : goal.returns
 returns c =

@@ -5,10 +5,10 @@ use Rattle.shelf.specs.declared.marks.Marks.{Marks}
 use Rattle.shelf.proofs.Seats.{inside_lifted, listed}
 use Rattle.shelf.proofs.marks_shelf.MarksShelf.take.Goals as goal
 
-pub invariant-of-self : goal.invariant-of-self
-invariant-of-self c =
+pub invariant_of-self : goal.invariant_of-self
+invariant_of-self c =
     let s = c.loop-i.self in
-    (search rules, (inside_lifted (vec_items s.marks) s.buckets c.loop-i.i s.inside, (search rules, tt)))
+    record { few = search rules; inside = inside_lifted (vec_items s.marks) s.buckets c.loop-i.i s.inside; counted = search rules }
 
 pub returns : goal.returns
 returns c =
