@@ -9,7 +9,7 @@ pub unreachable-requires : goal.unreachable-requires
 unreachable-requires g c =
     let lt : c.loop-k.k < vec_len c.args.items.now = search rules in
     not_bare (g.S.Shelf.meaning c.args.shelf.now) (g.S.Shelf.meaning c.loop-k.shelf) c.args.bucket c.loop-k.k (vec_len c.args.items.now) (vec_items c.loop-k.items)
-    c.loop-k.invariant.1 lt c.in-default.ensures.0
+    c.loop-k.invariant.1 lt c.in_default.ensures.0
 
 pub loop-k-preserved : goal.loop-k-preserved
 loop-k-preserved g c =

@@ -2,15 +2,13 @@ use Rattle.std.proofs.Common.{vec_items, vec_len, ◌∙◌}
 use Rattle.keeper_tree.proofs.Climbs.{over_blank, places_blank}
 use Rattle.keeper_tree.proofs.tree_keeper.TreeKeeper.clear.Goals as goal
 
-pub invariant-of-self : goal.invariant-of-self
-invariant-of-self c =
-    let s = c.args.self.now in (
-      s.few,
-      (
-        c.wipe.ensures.sized ∙ s.sized,
-        (over_blank s.places (vec_len s.nodes) (vec_items c.wipe.new.nodes) c.wipe.ensures.none, tt),
-      ),
-    )
+pub invariant_of-self : goal.invariant_of-self
+invariant_of-self c =
+    let s = c.args.self.now in record {
+      few = s.few;
+      sized = c.wipe.ensures.sized ∙ s.sized;
+      over = over_blank s.places (vec_len s.nodes) (vec_items c.wipe.new.nodes) c.wipe.ensures.none;
+    }
 
 pub returns : goal.returns
 returns c =
