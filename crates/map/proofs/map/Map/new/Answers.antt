@@ -22,18 +22,18 @@ invariant-of-result c =
 
 pub returns : goal.returns
 returns c =
-    let a = c.in-ok-level.ensures in
-    let b = c.in-ok-high.ensures in
+    let a = c.in_ok-level.ensures in
+    let b = c.in_ok-high.ensures in
     record {
       stations = refl;
       nodes = refl;
-      parent = c.in-ok-parent.ensures.items-if-clones-equal (λ y h. search rules);
+      parent = c.in_ok-parent.ensures.items-if-clones-equal (λ y h. search rules);
       level = a.0;
       lowest = a.1;
-      spread = c.in-ok-spread.ensures;
+      spread = c.in_ok-spread.ensures;
       buckets = a.2;
       first = a.3;
-      place = c.in-ok-place.ensures;
+      place = c.in_ok-place.ensures;
       low = a.4;
       high = b.0;
       children = b.1;
