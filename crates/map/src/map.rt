@@ -1,9 +1,8 @@
-ghost use Rattle.std.specs.Prelude.{◌≡◌, ℕ, ◌+◌, ◌*◌, ◌^◌, ◌<◌, ◌≤◌, vec_len, slice_index};
+ghost use Rattle.std.specs.Prelude.{ℕ, ◌+◌, ◌*◌, ◌^◌, ◌<◌, ◌≤◌, slice_index};
 
 /// The tree over the stations, by node: its parent, its level, its lowest station, its spread, its buckets and their first, its run of places, and its
 /// children, which stand in `children` from `from` on, so `many` of them. By station: its place. Which tree it is, and whether it fits a
-/// network, is said in the words of crate `tree`; the facts here are only that the numbers are small, and that there is memory for the largest tree:
-/// 512 stations and less than 1,024 nodes.
+/// network, is said in the words of crate `tree`; the facts here are only that the numbers are small.
 #[derive(Drop)]
 pub struct Map {
     pub stations: u32,
@@ -25,16 +24,4 @@ pub struct Map {
     ghost spreads: { (x : ℕ) → slice_index spread.items x ≤ 511 * 4294967295 },
     ghost room: { (x : ℕ) → slice_index first.items x + slice_index buckets.items x < 2 ^ 32 },
     ghost seated: { (u : ℕ) → u < stations → slice_index place.items u < stations },
-    ghost parent_size: { vec_len parent ≡ 1024 },
-    ghost level_size: { vec_len level ≡ 1024 },
-    ghost lowest_size: { vec_len lowest ≡ 1024 },
-    ghost spread_size: { vec_len spread ≡ 1024 },
-    ghost buckets_size: { vec_len buckets ≡ 1024 },
-    ghost first_size: { vec_len first ≡ 1024 },
-    ghost place_size: { vec_len place ≡ 512 },
-    ghost low_size: { vec_len low ≡ 1024 },
-    ghost high_size: { vec_len high ≡ 1024 },
-    ghost children_size: { vec_len children ≡ 1024 },
-    ghost from_size: { vec_len from ≡ 1024 },
-    ghost many_size: { vec_len many ≡ 1024 },
 }

@@ -43,16 +43,16 @@ join-groups-requires-then-b-a c =
 pub returns-then-a-b : goal.returns-then-a-b
 returns-then-a-b c =
     let p = c.requires in
-    let j = c.join-groups.ensures in
+    let j = c.join_groups.ensures in
     let level = level_is _ c.args.done c.level.result (c.level.ensures.delay (p.fit.proper c.args.k p.low.1).2) c.if-level-done.false in
-    record { grown = rw j.sums (look_joins p.fit p.grown p.low.1 c.if-not-served.false level c.join-groups.new.label c.if-a-b.true j.merged j.size) }
+    record { grown = rw j.sums (look_joins p.fit p.grown p.low.1 c.if-not-served.false level c.join_groups.new.label c.if-a-b.true j.merged j.size) }
 
 pub returns-then-b-a : goal.returns-then-b-a
 returns-then-b-a c =
     let p = c.requires in
-    let j = c.join-groups-then-b-a.ensures in
+    let j = c.join_groups-then-b-a.ensures in
     let level = level_is _ c.args.done c.level.result (c.level.ensures.delay (p.fit.proper c.args.k p.low.1).2) c.if-level-done.false in
-    record { grown = rw j.sums (look_joins_back p.fit p.grown p.low.1 c.if-not-served.false level c.join-groups-then-b-a.new.label c.if-b-a.true j.merged j.size) }
+    record { grown = rw j.sums (look_joins_back p.fit p.grown p.low.1 c.if-not-served.false level c.join_groups-then-b-a.new.label c.if-b-a.true j.merged j.size) }
 
 pub returns-else-b-a : goal.returns-else-b-a
 returns-else-b-a c =

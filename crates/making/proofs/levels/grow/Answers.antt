@@ -28,11 +28,11 @@ returns c =
     let rows = c.args.rows.now in
     let up = c.args.up.now in
     let w = c.begin.ensures rows up p.fit.proper in
-    let e = c.grow-levels.ensures in
-    let l = c.grow-levels.new in
+    let e = c.grow_levels.ensures in
+    let l = c.grow_levels.new in
     let forth : length c.begin.new.label ≡ length c.args.label.now = w.labels in
     record {
       grown = subst (λ m. Grown (network_of m rows up) (Small (network_of m rows up) 32) l.label l.sums) forth e.grown;
-      numbered = subst (λ m. Numbered (network_of m rows up) 32 0 c.grow-levels.result l.level l.lowest) forth e.numbered;
+      numbered = subst (λ m. Numbered (network_of m rows up) 32 0 c.grow_levels.result l.level l.lowest) forth e.numbered;
       room = e.room;
     }

@@ -28,8 +28,8 @@ grow-level-next-requires c =
 pub loop-done-preserved : goal.loop-done-preserved
 loop-done-preserved c =
     let w = c.loop-done.invariant in
-    let e = c.grow-level-next.ensures in
-    let l = c.grow-level-next.new in
+    let e = c.grow_level-next.ensures in
+    let l = c.grow_level-next.new in
     let rows = c.args.rows.now in
     let up = c.args.up.now in
     let n = length c.args.label.now in
@@ -42,8 +42,8 @@ loop-done-preserved c =
       below = omega (arith, e.room, w.levels);
       grown = subst (λ i. Grown (network_of n rows up) (Small (network_of n rows up) i) l.label l.sums) next
           (subst (λ m. Grown (network_of m rows up) (Small (network_of m rows up) (suc c.loop-done.done)) l.label l.sums) forth e.grown);
-      numbered = subst (λ i. Numbered (network_of n rows up) i 0 c.grow-level-next.result l.level l.lowest) next
-          (subst (λ m. Numbered (network_of m rows up) (suc c.loop-done.done) 0 c.grow-level-next.result l.level l.lowest) forth e.numbered);
+      numbered = subst (λ i. Numbered (network_of n rows up) i 0 c.grow_level-next.result l.level l.lowest) next
+          (subst (λ m. Numbered (network_of m rows up) (suc c.loop-done.done) 0 c.grow_level-next.result l.level l.lowest) forth e.numbered);
     }
 
 pub returns : goal.returns

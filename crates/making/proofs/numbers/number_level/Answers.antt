@@ -6,7 +6,7 @@ use Rattle.making.proofs.numbers.number_level.Goals as goal
 pub loop-s-preserved : goal.loop-s-preserved
 loop-s-preserved c =
     let i = c.loop-s.invariant in
-    let e = c.number-group-next.ensures in (
+    let e = c.number_group-next.ensures in (
       e.size.0 ∙ i.0,
       e.size.1 ∙ i.1,
       omega (arith, e.room, i.0),
