@@ -6,8 +6,8 @@ use Rattle.word.proofs.Digits.{no_digit}
 use Rattle.word.proofs.Numerals.{digit_at, digits_more}
 use Rattle.word.proofs.numeral.digits.Goals as goal
 
-pub returns-in-default : goal.returns-in-default
-returns-in-default c = λ ds. no_digit _ c.kind-of.result c.kind-of.ensures c.in-default.not-Digit (digit_at c.args.rest.now c.loop-byte.byte-index ds c.loop-byte-test.true)
+pub returns-in_default : goal.returns-in_default
+returns-in_default c = λ ds. no_digit _ c.kind_of.result c.kind_of.ensures c.in_default.not-Digit (digit_at c.args.rest.now c.loop-byte.byte-index ds c.loop-byte-test.true)
 
 pub loop-byte-preserved : goal.loop-byte-preserved
 loop-byte-preserved c =

@@ -3,10 +3,10 @@ use Rattle.word.specs.Numbers.{value}
 use Rattle.word.proofs.Numerals.{empty, nought, leads, leads_value, rest_digits, not_empty}
 use Rattle.word.proofs.numeral.number.Goals as goal
 
-pub returns-in-default-digits : goal.returns-in-default-digits
-returns-in-default-digits c =
+pub returns-in_default-digits : goal.returns-in_default-digits
+returns-in_default-digits c =
     let some : 0 < length c.args.word.now = search rules in
-    let told = c.in-default-digits.ensures in
+    let told = c.in_default-digits.ensures in
     (not_empty c.args.word.now some, λ n. told (rest_digits c.args.word.now n))
 
 pub returns-then-n-from : goal.returns-then-n-from
