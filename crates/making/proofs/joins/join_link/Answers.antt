@@ -20,8 +20,8 @@ returns-then-not-served c =
       ];
     }
 
-pub join-groups-requires : goal.join-groups-requires
-join-groups-requires c =
+pub join_groups-requires : goal.join_groups-requires
+join_groups-requires c =
     let p = c.requires in
     let l = p.low.1 in
     let from = from_station p.fit p.grown l in
@@ -30,8 +30,8 @@ join-groups-requires c =
     let b = read_low p.fit p.grown l _ to in
     record { listed = (omega (arith, p.grown.summed), omega (arith, p.grown.summed), b); fits = sums_fit p.fit p.grown l _ _ from to }
 
-pub join-groups-requires-then-b-a : goal.join-groups-requires-then-b-a
-join-groups-requires-then-b-a c =
+pub join_groups-requires-then-b-a : goal.join_groups-requires-then-b-a
+join_groups-requires-then-b-a c =
     let p = c.requires in
     let l = p.low.1 in
     let from = from_station p.fit p.grown l in

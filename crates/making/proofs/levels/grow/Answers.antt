@@ -5,8 +5,8 @@ use Rattle.making.specs.Numbers.{Numbered, Few}
 use Rattle.making.proofs.Numbering.{stations_numbered}
 use Rattle.making.proofs.levels.grow.Goals as goal
 
-pub grow-levels-requires : goal.grow-levels-requires
-grow-levels-requires c =
+pub grow_levels-requires : goal.grow_levels-requires
+grow_levels-requires c =
     let p = c.requires in
     let rows = c.args.rows.now in
     let up = c.args.up.now in

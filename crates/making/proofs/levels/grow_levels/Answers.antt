@@ -9,8 +9,8 @@ loop-done-init c =
     let p = c.requires in
     record { kept = p.alike.0; levels = refl; lowests = p.room.0; below = p.room.1; grown = p.grown; numbered = p.numbered }
 
-pub grow-level-next-requires : goal.grow-level-next-requires
-grow-level-next-requires c =
+pub grow_level-next-requires : goal.grow_level-next-requires
+grow_level-next-requires c =
     let p = c.requires in
     let w = c.loop-done.invariant in
     let rows = c.args.rows.now in
