@@ -8,8 +8,8 @@ pub returns : goal.returns
 returns g c =
     let n = (g.K.Keeper.meaning c.args.keeper.now).places in
     let k₁ = g.K.Keeper.meaning c.clear-3.new.self in
-    let pl : c.place-of-place.result < n = omega (arith, c.args.map.now.seated c.args.source c.requires.source, c.place-of-place.ensures, c.requires.places) in
-    let e = (granted c.lower.result c.lower.ensures.done c.lower.ensures.refused (may_lower n c.place-of-place.result 0 k₁ c.clear-3.ensures pl)).1 in
+    let pl : c.place_of-place.result < n = omega (arith, c.args.map.now.seated c.args.source c.requires.source, c.place_of-place.ensures, c.requires.places) in
+    let e = (granted c.lower.result c.lower.ensures.done c.lower.ensures.refused (may_lower n c.place_of-place.result 0 k₁ c.clear-3.ensures pl)).1 in
     blank (tree_of c.args.map.now) c.args.trail.now c.clear.new.trail (g.S.Shelf.meaning c.args.shelf.now) (g.S.Shelf.meaning c.clear-2.new.self) k₁
-    (g.K.Keeper.meaning c.lower.new.self) n c.args.source c.place-of-place.result c.requires.tree.runs c.requires.source c.clear.ensures c.clear-2.ensures
-    c.clear-3.ensures (g.met.K.Keeper.sized c.clear-3.new.self) c.place-of-place.ensures pl e
+    (g.K.Keeper.meaning c.lower.new.self) n c.args.source c.place_of-place.result c.requires.tree.runs c.requires.source c.clear.ensures c.clear-2.ensures
+    c.clear-3.ensures (g.met.K.Keeper.sized c.clear-3.new.self) c.place_of-place.ensures pl e

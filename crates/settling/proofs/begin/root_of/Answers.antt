@@ -13,4 +13,4 @@ pub loop-p-smaller : goal.loop-p-smaller
 loop-p-smaller c = let up = sym c.in-Some.ensures in omega (arith, c.requires.later _ _ up, c.requires.listed _ _ up)
 
 pub returns : goal.returns
-returns c = record { holds = c.loop-p.invariant; top = sym c.in-default.ensures }
+returns c = record { holds = c.loop-p.invariant; top = sym c.in_default.ensures }

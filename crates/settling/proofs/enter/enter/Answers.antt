@@ -3,7 +3,7 @@ use Rattle.settling.specs.Turns.{again, first}
 use Rattle.settling.proofs.enter.enter.Goals as goal
 
 pub returns-in-Some : goal.returns-in-Some
-returns-in-Some g c = again c.in-Some.-b (sym c.in-Some.ensures) refl refl c.frame-of.ensures
+returns-in-Some g c = again c.in-Some._b (sym c.in-Some.ensures) refl refl c.frame_of.ensures
 
 pub expand-requires : goal.expand-requires
 expand-requires g c =
@@ -14,9 +14,9 @@ expand-requires g c =
       count = c.requires.count;
       items = c.requires.items;
       buckets = c.requires.buckets;
-      kids = c.requires.kids (sym c.in-default.ensures);
+      kids = c.requires.kids (sym c.in_default.ensures);
       known = c.requires.known;
     }
 
 pub returns : goal.returns
-returns g c = first (sym c.in-default.ensures) c.expand.ensures c.frame-of-2.ensures
+returns g c = first (sym c.in_default.ensures) c.expand.ensures c.frame_of-2.ensures

@@ -8,8 +8,8 @@ use Rattle.settling.proofs.follow.follow_links.Goals as goal
 pub loop-k-init : goal.loop-k-init
 loop-k-init g c = (begun, alike_same _ _)
 
-pub lower-along-requires : goal.lower-along-requires
-lower-along-requires g c =
+pub lower_along-requires : goal.lower_along-requires
+lower_along-requires g c =
     record {
       listed = omega arith;
       charted = c.requires.charted;
@@ -20,7 +20,7 @@ lower-along-requires g c =
 
 pub loop-k-preserved : goal.loop-k-preserved
 loop-k-preserved g c =
-    (rw add-one (next c.loop-k.invariant.0 c.lower-along.ensures.link), alike_then c.loop-k.invariant.1 c.lower-along.ensures.alike)
+    (rw add-one (next c.loop-k.invariant.0 c.lower_along.ensures.link), alike_then c.loop-k.invariant.1 c.lower_along.ensures.alike)
 
 pub returns : goal.returns
 returns g c =

@@ -9,18 +9,18 @@ use Rattle.settling.proofs.Lowers.{hop_end, link_skip, link_keep, lowered_at, li
 use Rattle.settling.proofs.Rooms.{alike_same}
 use Rattle.settling.proofs.follow.lower_along.Goals as goal
 
-pub returns-in-default : goal.returns-in-default
-returns-in-default g c = record { link = skip (λ u j. absurd (c.in-default.ensures u j)); alike = alike_same _ _ }
+pub returns-in_default : goal.returns-in_default
+returns-in_default g c = record { link = skip (λ u j. absurd (c.in_default.ensures u j)); alike = alike_same _ _ }
 
-pub returns-in-Some-final-of : goal.returns-in-Some-final-of
-returns-in-Some-final-of g c =
+pub returns-in-Some-final_of : goal.returns-in-Some-final_of
+returns-in-Some-final_of g c =
     record {
-      link = link_skip _ _ _ _ _ c.in-Some.u _ _ c.in-Some.ensures.only (sym c.in-Some-final-of.ensures);
+      link = link_skip _ _ _ _ _ c.in-Some.u _ _ c.in-Some.ensures.only (sym c.in-Some-final_of.ensures);
       alike = alike_same _ _;
     }
 
-pub overflow-add-sum : goal.overflow-add-sum
-overflow-add-sum g c = omega (arith, c.requires.short, c.delay-of.type-inv, c.from.ensures)
+pub overflow_add-sum : goal.overflow_add-sum
+overflow_add-sum g c = omega (arith, c.requires.short, c.delay_of.type_inv, c.from.ensures)
 
 pub front-c-requires : goal.front-c-requires
 front-c-requires g c =
@@ -28,13 +28,13 @@ front-c-requires g c =
     record {
       tree = walkable c.requires.charted.fits c.requires.charted.runs;
       shut = c.requires.apt.shut c.in-Some.u (hop_end c.requires.charted.fits j);
-      fronted = c.requires.apt.front c.in-Some.u j (sym c.in-default-final-of.ensures);
+      fronted = c.requires.apt.front c.in-Some.u j (sym c.in_default-final_of.ensures);
     }
 
 pub bring-requires : goal.bring-requires
 bring-requires g c =
     let j = c.in-Some.ensures.hop in
-    let new = sym c.in-default-final-of.ensures in
+    let new = sym c.in_default-final_of.ensures in
     let net = network_of c.args.map.now c.args.rows.now c.args.service.now in
     let is_sum : c.args.d + c.from.result ≡ c.args.d + delay net c.args.k = search rules in
     let lo = c.lower.ensures.done c.if-lower.true in
@@ -46,8 +46,8 @@ bring-requires g c =
       few = c.requires.apt.few;
       ready = c.requires.apt.ready c.in-Some.u c.front-c.result _ j new
           (lowered_at net (tree_of c.args.map.now) c.args.trail.now (g.S.Shelf.meaning c.args.shelf.now) (g.K.Keeper.meaning c.args.keeper.now)
-          (g.K.Keeper.meaning c.lower.new.self) c.args.v c.args.d c.args.k c.in-Some.u c.place-of-place.result
-          (c.args.d + c.from.result) j (hop_end c.requires.charted.fits j) c.place-of-place.ensures lo.0.0 new is_sum c.requires.charted.runs
+          (g.K.Keeper.meaning c.lower.new.self) c.args.v c.args.d c.args.k c.in-Some.u c.place_of-place.result
+          (c.args.d + c.from.result) j (hop_end c.requires.charted.fits j) c.place_of-place.ensures lo.0.0 new is_sum c.requires.charted.runs
           (g.met.K.Keeper.sized c.args.keeper.now) lo.1)
           c.front-c.ensures.is;
     }
@@ -55,14 +55,14 @@ bring-requires g c =
 pub returns-then-lower : goal.returns-then-lower
 returns-then-lower g c =
     let j = c.in-Some.ensures.hop in
-    let new = sym c.in-default-final-of.ensures in
+    let new = sym c.in_default-final_of.ensures in
     let net = network_of c.args.map.now c.args.rows.now c.args.service.now in
     let is_sum : c.args.d + c.from.result ≡ c.args.d + delay net c.args.k = search rules in
     let lo = c.lower.ensures.done c.if-lower.true in
     record {
       link = link_lower net (tree_of c.args.map.now) c.args.trail.now (g.S.Shelf.meaning c.args.shelf.now) (g.K.Keeper.meaning c.args.keeper.now)
-          (g.K.Keeper.meaning c.lower.new.self) c.args.v c.args.d c.args.k c.in-Some.u c.place-of-place.result
-          (c.args.d + c.from.result) j (hop_end c.requires.charted.fits j) c.place-of-place.ensures lo.0.0 new is_sum c.requires.charted.runs
+          (g.K.Keeper.meaning c.lower.new.self) c.args.v c.args.d c.args.k c.in-Some.u c.place_of-place.result
+          (c.args.d + c.from.result) j (hop_end c.requires.charted.fits j) c.place_of-place.ensures lo.0.0 new is_sum c.requires.charted.runs
           (g.met.K.Keeper.sized c.args.keeper.now) (g.S.Shelf.meaning c.bring.new.shelf) c.front-c.result lo.0 lo.1
           c.front-c.ensures.is c.bring.ensures;
       alike = record { items = c.bring.ensures.items; buckets = c.bring.ensures.buckets; places = ap (λ (x : Keeps). x.places) lo.1 };
@@ -71,16 +71,16 @@ returns-then-lower g c =
 pub returns-else-lower : goal.returns-else-lower
 returns-else-lower g c =
     let j = c.in-Some.ensures.hop in
-    let new = sym c.in-default-final-of.ensures in
+    let new = sym c.in_default-final_of.ensures in
     let net = network_of c.args.map.now c.args.rows.now c.args.service.now in
     let is_sum : c.args.d + c.from.result ≡ c.args.d + delay net c.args.k = search rules in
     let hi = c.lower.ensures.refused c.if-lower.false in
     let st = hop_end c.requires.charted.fits j in
-    let pl : c.place-of-place.result < (g.K.Keeper.meaning c.args.keeper.now).places =
-    omega (arith, c.args.map.now.seated c.in-Some.u st, c.place-of-place.ensures, c.requires.room.places) in
+    let pl : c.place_of-place.result < (g.K.Keeper.meaning c.args.keeper.now).places =
+    omega (arith, c.args.map.now.seated c.in-Some.u st, c.place_of-place.ensures, c.requires.room.places) in
     record {
       link = link_keep net (tree_of c.args.map.now) c.args.trail.now (g.S.Shelf.meaning c.args.shelf.now) (g.K.Keeper.meaning c.args.keeper.now)
-          (g.K.Keeper.meaning c.lower.new.self) c.args.v c.args.d c.args.k c.in-Some.u c.place-of-place.result
-          (c.args.d + c.from.result) j st c.place-of-place.ensures pl new is_sum hi.0 hi.1;
+          (g.K.Keeper.meaning c.lower.new.self) c.args.v c.args.d c.args.k c.in-Some.u c.place_of-place.result
+          (c.args.d + c.from.result) j st c.place_of-place.ensures pl new is_sum hi.0 hi.1;
       alike = record { items = refl; buckets = refl; places = ap (λ (x : Keeps). x.places) hi.1 };
     }

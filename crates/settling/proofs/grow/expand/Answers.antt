@@ -6,19 +6,19 @@ use Rattle.settling.proofs.Keepers.{lowest_of, nothing_of}
 use Rattle.settling.proofs.Kids.{opened_base}
 use Rattle.settling.proofs.grow.expand.Goals as goal
 
-pub returns-in-default : goal.returns-in-default
-returns-in-default g c =
-    absurd (c.requires.known (nothing_of (tree_of c.args.map.now) (g.K.Keeper.meaning c.args.keeper.now) c.args.node c.low-of-low.result
-    c.high-of-high.result c.requires.tree.runs c.low-of-low.ensures c.high-of-high.ensures c.in-default.ensures))
+pub returns-in_default : goal.returns-in_default
+returns-in_default g c =
+    absurd (c.requires.known (nothing_of (tree_of c.args.map.now) (g.K.Keeper.meaning c.args.keeper.now) c.args.node c.low_of-low.result
+    c.high_of-high.result c.requires.tree.runs c.low_of-low.ensures c.high_of-high.ensures c.in_default.ensures))
 
-pub put-children-requires : goal.put-children-requires
-put-children-requires g c =
+pub put_children-requires : goal.put_children-requires
+put_children-requires g c =
     let t = tree_of c.args.map.now in
     let lo =
-    lowest_of t (g.K.Keeper.meaning c.args.keeper.now) c.args.node c.low-of-low.result c.high-of-high.result c.in-Some.d c.requires.tree.runs
-    c.requires.listed c.low-of-low.ensures c.high-of-high.ensures c.in-Some.ensures in
+    lowest_of t (g.K.Keeper.meaning c.args.keeper.now) c.args.node c.low_of-low.result c.high_of-high.result c.in-Some.d c.requires.tree.runs
+    c.requires.listed c.low_of-low.ensures c.high_of-high.ensures c.in-Some.ensures in
     let op =
-    subst (λ (b : ℕ). Opened c.args.trail.now c.open.new.self c.args.node b) (ap (λ (s : ℕ). c.in-Some.d / 2 ^ s) c.shift-of.ensures.is)
+    subst (λ (b : ℕ). Opened c.args.trail.now c.open.new.self c.args.node b) (ap (λ (s : ℕ). c.in-Some.d / 2 ^ s) c.shift_of.ensures.is)
     c.open.ensures in
     let lt : c.args.node < length (vec_items c.args.trail.now.base) = omega (arith, c.requires.listed, c.requires.base, c.args.trail.now.base.ok.0) in
     record {
@@ -33,16 +33,16 @@ pub returns : goal.returns
 returns g c =
     let t = tree_of c.args.map.now in
     let lo =
-    lowest_of t (g.K.Keeper.meaning c.args.keeper.now) c.args.node c.low-of-low.result c.high-of-high.result c.in-Some.d c.requires.tree.runs
-    c.requires.listed c.low-of-low.ensures c.high-of-high.ensures c.in-Some.ensures in
+    lowest_of t (g.K.Keeper.meaning c.args.keeper.now) c.args.node c.low_of-low.result c.high_of-high.result c.in-Some.d c.requires.tree.runs
+    c.requires.listed c.low_of-low.ensures c.high_of-high.ensures c.in-Some.ensures in
     let op =
-    subst (λ (b : ℕ). Opened c.args.trail.now c.open.new.self c.args.node b) (ap (λ (s : ℕ). c.in-Some.d / 2 ^ s) c.shift-of.ensures.is)
+    subst (λ (b : ℕ). Opened c.args.trail.now c.open.new.self c.args.node b) (ap (λ (s : ℕ). c.in-Some.d / 2 ^ s) c.shift_of.ensures.is)
     c.open.ensures in
     record {
       d = c.in-Some.d;
       lowest = lo;
       opened = op;
-      puts = c.put-children.ensures.puts;
-      items = c.put-children.ensures.items;
-      buckets = c.put-children.ensures.buckets;
+      puts = c.put_children.ensures.puts;
+      items = c.put_children.ensures.items;
+      buckets = c.put_children.ensures.buckets;
     }

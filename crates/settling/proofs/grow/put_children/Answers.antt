@@ -14,16 +14,16 @@ pub bring-requires : goal.bring-requires
 bring-requires g c =
     let t = tree_of c.args.map.now in
     let xs = t.children c.args.node in
-    let lt : c.loop-i.i < length xs = omega (arith, c.many-of-i-end.ensures) in
-    let up : t.parent c.child-of-c.result ≡ Some c.args.node =
-    subst (λ (x : ℕ). t.parent x ≡ Some c.args.node) (sym c.child-of-c.ensures) (c.requires.kids.child (get_or xs c.loop-i.i 0) (among_at xs c.loop-i.i lt)) in
+    let lt : c.loop-i.i < length xs = omega (arith, c.many_of-i-end.ensures) in
+    let up : t.parent c.child_of-c.result ≡ Some c.args.node =
+    subst (λ (x : ℕ). t.parent x ≡ Some c.args.node) (sym c.child_of-c.ensures) (c.requires.kids.child (get_or xs c.loop-i.i 0) (among_at xs c.loop-i.i lt)) in
     record {
       listed = omega (arith, c.requires.tree.later _ _ up, c.requires.tree.listed _ _ up);
       tree = c.requires.tree;
       items = omega (arith, c.requires.items, c.loop-i.invariant.1);
       buckets = omega (arith, c.requires.buckets, c.loop-i.invariant.2);
       few = still_few t _ _ xs c.loop-i.i (g.S.Shelf.meaning c.args.shelf.now) (g.S.Shelf.meaning c.loop-i.shelf) lt c.loop-i.invariant.0 c.requires.kids.few;
-      ready = c.requires.ready c.child-of-c.result up;
+      ready = c.requires.ready c.child_of-c.result up;
     }
 
 pub loop-i-preserved : goal.loop-i-preserved
@@ -36,8 +36,8 @@ loop-i-preserved g c =
     let H = g.S.Shelf.meaning c.args.shelf.now in
     let h = g.S.Shelf.meaning c.loop-i.shelf in
     let h' = g.S.Shelf.meaning c.bring.new.shelf in
-    let lt : i < length xs = omega (arith, c.many-of-i-end.ensures) in
-    let br = subst (λ (x : ℕ). Brought t so_far base x h h') c.child-of-c.ensures c.bring.ensures in (
+    let lt : i < length xs = omega (arith, c.many_of-i-end.ensures) in
+    let br = subst (λ (x : ℕ). Brought t so_far base x h h') c.child_of-c.ensures c.bring.ensures in (
       next_child t so_far base xs i H h lt c.loop-i.invariant.0 h' c.requires.kids.once
           (c.requires.kids.free (get_or xs i 0) (c.requires.kids.child (get_or xs i 0) (among_at xs i lt))) br,
       c.bring.ensures.items ∙ c.loop-i.invariant.1,
@@ -48,7 +48,7 @@ pub returns : goal.returns
 returns g c =
     let t = tree_of c.args.map.now in
     let xs = t.children c.args.node in
-    let le : length xs ≤ c.loop-i.i = omega (arith, c.many-of-i-end.ensures) in
+    let le : length xs ≤ c.loop-i.i = omega (arith, c.many_of-i-end.ensures) in
     record {
       puts = subst (λ (cs : List ℕ). Puts t (sofar_of t (g.K.Keeper.meaning c.args.keeper.now)) (base_of c.args.trail.now) cs
           (shelf_of (g.S.Shelf.meaning c.args.shelf.now)) (shelf_of (g.S.Shelf.meaning c.loop-i.shelf))) (take_all c.loop-i.i xs le)

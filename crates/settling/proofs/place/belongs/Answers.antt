@@ -6,15 +6,15 @@ use Rattle.settling.proofs.Places.{start_below, belongs_at}
 use Rattle.settling.proofs.Keepers.{nothing_of}
 use Rattle.settling.proofs.place.belongs.Goals as goal
 
-pub overflow-sub-k : goal.overflow-sub-k
-overflow-sub-k g c =
+pub overflow_sub-k : goal.overflow_sub-k
+overflow_sub-k g c =
     start_below (tree_of c.args.map.now) (g.K.Keeper.meaning c.args.keeper.now) (base_of c.args.trail.now) c.args.node c.in-Some.x
-    c.in-Some-base-of.start _ _ c.in-Some-least.d _ c.requires.tree c.requires.listed c.requires.ready c.in-Some.ensures
-    c.in-Some-base-of.ensures c.low-of-low.ensures c.high-of-high.ensures c.in-Some-least.ensures c.shift-of-shift.ensures.is
+    c.in-Some-base_of.start _ _ c.in-Some-least.d _ c.requires.tree c.requires.listed c.requires.ready c.in-Some.ensures
+    c.in-Some-base_of.ensures c.low_of-low.ensures c.high_of-high.ensures c.in-Some-least.ensures c.shift_of-shift.ensures.is
 
 pub returns : goal.returns
 returns g c =
     belongs_at (tree_of c.args.map.now) (g.K.Keeper.meaning c.args.keeper.now) (base_of c.args.trail.now) c.args.node c.in-Some.x
-    c.in-Some-base-of.start _ _ c.in-Some-least.d _ c.requires.tree c.requires.listed c.requires.ready c.in-Some.ensures
-    c.in-Some-base-of.ensures c.low-of-low.ensures c.high-of-high.ensures c.in-Some-least.ensures c.shift-of-shift.ensures.is
-    c.bucket-at.result c.bucket-at.ensures
+    c.in-Some-base_of.start _ _ c.in-Some-least.d _ c.requires.tree c.requires.listed c.requires.ready c.in-Some.ensures
+    c.in-Some-base_of.ensures c.low_of-low.ensures c.high_of-high.ensures c.in-Some-least.ensures c.shift_of-shift.ensures.is
+    c.bucket_at.result c.bucket_at.ensures

@@ -36,8 +36,8 @@ step-turn-requires g c =
       callable = callable net t c.args.source c.loop-f.steps w h k f fs given limit walk (λ x i. m.spreads x);
     }
 
-pub turn-to-requires : goal.turn-to-requires
-turn-to-requires g c =
+pub turn_to-requires : goal.turn_to-requires
+turn_to-requires g c =
     let m = c.args.map.now in
     let net = network_of m c.args.rows.now c.args.service.now in
     let given : Given net (tree_of m) c.args.source = record { fits = c.requires.charted.fits; sized = c.requires.charted.sized; station = c.requires.source } in
@@ -45,8 +45,8 @@ turn-to-requires g c =
     let deep = depth given limit c.loop-f.invariant.0 32 (λ x. m.levels x) in
     omega (arith, deep, downward_length c.loop-f.frames.room.now c.loop-f.frames.len c.loop-f.frames.within, c.requires.space, c.loop-f.invariant.3)
 
-pub overflow-add-steps : goal.overflow-add-steps
-overflow-add-steps g c =
+pub overflow_add-steps : goal.overflow_add-steps
+overflow_add-steps g c =
     let m = c.args.map.now in
     let net = network_of m c.args.rows.now c.args.service.now in
     let given : Given net (tree_of m) c.args.source = record { fits = c.requires.charted.fits; sized = c.requires.charted.sized; station = c.requires.source } in
@@ -64,10 +64,10 @@ loop-f-preserved g c =
       walked_on net t c.args.source c.loop-f.steps (core_of t c.loop-f.trail (g.S.Shelf.meaning c.loop-f.shelf) (g.K.Keeper.meaning c.loop-f.keeper))
           (core_of t c.step-turn.new.trail (g.S.Shelf.meaning c.step-turn.new.shelf) (g.K.Keeper.meaning c.step-turn.new.keeper))
           (downward c.loop-f.frames.room.now c.loop-f.frames.len) _ (f ∷ fs) (after c.step-turn.result f fs) c.loop-f.invariant.0 is
-          (c.step-turn.ensures.step fs) (c.turn-to.ensures.is f fs is),
+          (c.step-turn.ensures.step fs) (c.turn_to.ensures.is f fs is),
       c.step-turn.ensures.room,
       alike_then c.loop-f.invariant.2 c.step-turn.ensures.alike,
-      c.turn-to.ensures.size ∙ c.loop-f.invariant.3,
+      c.turn_to.ensures.size ∙ c.loop-f.invariant.3,
     )
 
 pub loop-f-smaller : goal.loop-f-smaller

@@ -8,8 +8,8 @@ use Rattle.settling.proofs.Visits.{room_settled}
 use Rattle.settling.proofs.Turns.{is_going, is_ended, step_rise, step_visit, step_enter, due, kids_of, room_took, room_risen, room_entered, alike_entered}
 use Rattle.settling.proofs.step.step.Goals as goal
 
-pub goes-on-requires : goal.goes-on-requires
-goes-on-requires g c =
+pub goes_on-requires : goal.goes_on-requires
+goes_on-requires g c =
     record {
       listed = c.requires.able.inner.below;
       tree = walkable c.requires.charted.fits c.requires.charted.runs;
@@ -20,7 +20,7 @@ pub leave-requires : goal.leave-requires
 leave-requires g c =
     let t = tree_of c.args.map.now in
     let h = g.S.Shelf.meaning c.args.shelf.now in
-    let e : c.goes-on.result ≡ false = search rules in
+    let e : c.goes_on.result ≡ false = search rules in
     record {
       listed = c.requires.able.inner.below;
       tree = walkable c.requires.charted.fits c.requires.charted.runs;
@@ -29,55 +29,55 @@ leave-requires g c =
       few = c.requires.able.few;
       free = c.requires.able.free;
       ready = c.requires.able.ready;
-      ended = is_ended t (core_of t c.args.trail.now h (g.K.Keeper.meaning c.args.keeper.now)) c.args.f c.goes-on.result e (c.goes-on.ensures h);
+      ended = is_ended t (core_of t c.args.trail.now h (g.K.Keeper.meaning c.args.keeper.now)) c.args.f c.goes_on.result e (c.goes_on.ensures h);
     }
 
-pub take-next-requires : goal.take-next-requires
-take-next-requires g c =
+pub take_next-requires : goal.take_next-requires
+take_next-requires g c =
     let t = tree_of c.args.map.now in
     let h = g.S.Shelf.meaning c.args.shelf.now in
-    let e : c.goes-on.result ≡ true = search rules in
-    let going = is_going t (core_of t c.args.trail.now h (g.K.Keeper.meaning c.args.keeper.now)) c.args.f c.goes-on.result e (c.goes-on.ensures h) in
+    let e : c.goes_on.result ≡ true = search rules in
+    let going = is_going t (core_of t c.args.trail.now h (g.K.Keeper.meaning c.args.keeper.now)) c.args.f c.goes_on.result e (c.goes_on.ensures h) in
     record { start = c.requires.able.start; based = c.requires.able.based; from = c.requires.able.from; within = c.requires.able.within going.more }
 
 pub rise-requires : goal.rise-requires
 rise-requires g c =
     let t = tree_of c.args.map.now in
     let h = g.S.Shelf.meaning c.args.shelf.now in
-    let e : c.goes-on.result ≡ true = search rules in
-    let going = is_going t (core_of t c.args.trail.now h (g.K.Keeper.meaning c.args.keeper.now)) c.args.f c.goes-on.result e (c.goes-on.ensures h) in
+    let e : c.goes_on.result ≡ true = search rules in
+    let going = is_going t (core_of t c.args.trail.now h (g.K.Keeper.meaning c.args.keeper.now)) c.args.f c.goes_on.result e (c.goes_on.ensures h) in
     record { listed = omega (arith, c.requires.able.inner.below, c.requires.room.count); fits = c.requires.short going.more }
 
-pub returns-in-default : goal.returns-in-default
-returns-in-default g c =
+pub returns-in_default : goal.returns-in_default
+returns-in_default g c =
     let t = tree_of c.args.map.now in
     let w = c.args.trail.now in
     let h = g.S.Shelf.meaning c.args.shelf.now in
     let k = g.K.Keeper.meaning c.args.keeper.now in
-    let e : c.goes-on.result ≡ true = search rules in
-    let going = is_going t (core_of t w h k) c.args.f c.goes-on.result e (c.goes-on.ensures h) in
-    let found = c.in-default.ensures in
+    let e : c.goes_on.result ≡ true = search rules in
+    let going = is_going t (core_of t w h k) c.args.f c.goes_on.result e (c.goes_on.ensures h) in
+    let found = c.in_default.ensures in
     let lt : c.args.f.node < length (vec_items w.count) = omega (arith, c.requires.able.inner.below, c.requires.room.count, w.count.ok.0) in
     record {
       step = λ fs. step_rise (network_of c.args.map.now c.args.rows.now c.args.service.now) t w h k c.args.f fs going c.rise.new.self
-          (g.S.Shelf.meaning c.take-next.new.shelf) found lt c.rise.ensures;
+          (g.S.Shelf.meaning c.take_next.new.shelf) found lt c.rise.ensures;
       room = room_risen c.requires.room c.rise.ensures found.same;
       alike = record { items = ap (λ (z : Holds). z.items) found.same; buckets = ap (λ (z : Holds). z.buckets) found.same; places = refl };
     }
 
-pub visit-station-requires : goal.visit-station-requires
-visit-station-requires g c =
+pub visit_station-requires : goal.visit_station-requires
+visit_station-requires g c =
     let t = tree_of c.args.map.now in
     let h = g.S.Shelf.meaning c.args.shelf.now in
-    let e : c.goes-on.result ≡ true = search rules in
-    let going = is_going t (core_of t c.args.trail.now h (g.K.Keeper.meaning c.args.keeper.now)) c.args.f c.goes-on.result e (c.goes-on.ensures h) in
+    let e : c.goes_on.result ≡ true = search rules in
+    let going = is_going t (core_of t c.args.trail.now h (g.K.Keeper.meaning c.args.keeper.now)) c.args.f c.goes_on.result e (c.goes_on.ensures h) in
     let took = c.in-Some.ensures in
     let st : c.in-Some.c < c.args.map.now.stations = omega (arith, c.stations.ensures) in
     record {
       charted = c.requires.charted;
       room = room_took c.requires.room took;
       station = st;
-      callable = c.requires.callable c.in-Some.c (g.S.Shelf.meaning c.take-next.new.shelf) going took.taken st;
+      callable = c.requires.callable c.in-Some.c (g.S.Shelf.meaning c.take_next.new.shelf) going took.taken st;
     }
 
 pub returns-then-c-stations : goal.returns-then-c-stations
@@ -86,16 +86,16 @@ returns-then-c-stations g c =
     let w = c.args.trail.now in
     let h = g.S.Shelf.meaning c.args.shelf.now in
     let k = g.K.Keeper.meaning c.args.keeper.now in
-    let e : c.goes-on.result ≡ true = search rules in
-    let going = is_going t (core_of t w h k) c.args.f c.goes-on.result e (c.goes-on.ensures h) in
+    let e : c.goes_on.result ≡ true = search rules in
+    let going = is_going t (core_of t w h k) c.args.f c.goes_on.result e (c.goes_on.ensures h) in
     let took = c.in-Some.ensures in
     let st : c.in-Some.c < t.stations = omega (arith, c.stations.ensures) in
-    let alike = alike_then (record { items = took.items; buckets = took.buckets; places = refl }) c.visit-station.ensures.alike in
+    let alike = alike_then (record { items = took.items; buckets = took.buckets; places = refl }) c.visit_station.ensures.alike in
     record {
       step = λ fs. step_visit (network_of c.args.map.now c.args.rows.now c.args.service.now) t w h k c.args.f fs going c.in-Some.c
-          c.visit-station.new.trail (g.S.Shelf.meaning c.take-next.new.shelf) (g.S.Shelf.meaning c.visit-station.new.shelf)
-          (g.K.Keeper.meaning c.visit-station.new.keeper) took st c.visit-station.ensures.visited;
-      room = room_settled (room_alike c.requires.room alike) c.visit-station.ensures.visited.settled refl;
+          c.visit_station.new.trail (g.S.Shelf.meaning c.take_next.new.shelf) (g.S.Shelf.meaning c.visit_station.new.shelf)
+          (g.K.Keeper.meaning c.visit_station.new.keeper) took st c.visit_station.ensures.visited;
+      room = room_settled (room_alike c.requires.room alike) c.visit_station.ensures.visited.settled refl;
       alike = alike;
     }
 
@@ -104,10 +104,10 @@ enter-requires g c =
     let t = tree_of c.args.map.now in
     let w = c.args.trail.now in
     let h = g.S.Shelf.meaning c.args.shelf.now in
-    let h₁ = g.S.Shelf.meaning c.take-next.new.shelf in
+    let h₁ = g.S.Shelf.meaning c.take_next.new.shelf in
     let k = g.K.Keeper.meaning c.args.keeper.now in
-    let e : c.goes-on.result ≡ true = search rules in
-    let going = is_going t (core_of t w h k) c.args.f c.goes-on.result e (c.goes-on.ensures h) in
+    let e : c.goes_on.result ≡ true = search rules in
+    let going = is_going t (core_of t w h k) c.args.f c.goes_on.result e (c.goes_on.ensures h) in
     let took = c.in-Some.ensures in
     let room = room_took c.requires.room took in
     let up = c.requires.able.child c.in-Some.c going.more (due took) in
@@ -128,10 +128,10 @@ returns g c =
     let t = tree_of c.args.map.now in
     let w = c.args.trail.now in
     let h = g.S.Shelf.meaning c.args.shelf.now in
-    let h₁ = g.S.Shelf.meaning c.take-next.new.shelf in
+    let h₁ = g.S.Shelf.meaning c.take_next.new.shelf in
     let k = g.K.Keeper.meaning c.args.keeper.now in
-    let e : c.goes-on.result ≡ true = search rules in
-    let going = is_going t (core_of t w h k) c.args.f c.goes-on.result e (c.goes-on.ensures h) in
+    let e : c.goes_on.result ≡ true = search rules in
+    let going = is_going t (core_of t w h k) c.args.f c.goes_on.result e (c.goes_on.ensures h) in
     let took = c.in-Some.ensures in
     let room = room_took c.requires.room took in
     let up = c.requires.able.child c.in-Some.c going.more (due took) in
