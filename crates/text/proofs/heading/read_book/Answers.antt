@@ -8,22 +8,22 @@ use Rattle.text.specs.Sheet.{book_names, book_values, no_state}
 use Rattle.text.specs.declared.table.Table.TheVariants.{Book}
 use Rattle.text.proofs.heading.read_book.Goals as goal
 
-pub returns-in-err-places : goal.returns-in-err-places
-returns-in-err-places c =
-    let p = err_from_is_err_and c.from-residual.result c.from-residual.ensures.1 in
-    let fault = c.in-err-places.field-0.0 in
+pub returns-in_err-places : goal.returns-in_err-places
+returns-in_err-places c =
+    let p = err_from_is_err_and c.from_residual.result c.from_residual.ensures.1 in
+    let fault = c.in_err-places.field-0.0 in
     let text = c.args.text.now in
-    rw (p.1, p.2) (book_names (subst (λ (i : ℕ). AtLine i fault (DueFault text i (NamesFault Book))) c.requires.first c.in-err-places.ensures))
+    rw (p.1, p.2) (book_names (subst (λ (i : ℕ). AtLine i fault (DueFault text i (NamesFault Book))) c.requires.first c.in_err-places.ensures))
 
-pub returns-in-err-values : goal.returns-in-err-values
-returns-in-err-values c =
-    let p = err_from_is_err_and c.from-residual-in-err-values.result c.from-residual-in-err-values.ensures.1 in
-    let fault = c.in-err-values.field-0.0 in
+pub returns-in_err-values : goal.returns-in_err-values
+returns-in_err-values c =
+    let p = err_from_is_err_and c.from_residual-in_err-values.result c.from_residual-in_err-values.ensures.1 in
+    let fault = c.in_err-values.field-0.0 in
     let text = c.args.text.now in
-    let places = c.in-ok-places.places in
-    let told = c.in-ok-places.ensures in
-    let second : c.names-line.new.cursor.line ≡ 1 = told.2.line ∙ ap (λ (i : ℕ). i + 1) c.requires.first in
+    let places = c.in_ok-places.places in
+    let told = c.in_ok-places.ensures in
+    let second : c.names_line.new.cursor.line ≡ 1 = told.2.line ∙ ap (λ (i : ℕ). i + 1) c.requires.first in
     rw (p.1, p.2) (book_values places
     (subst (λ (i : ℕ). Stands text i) c.requires.first told.0)
     (subst (λ (i : ℕ). Ordered Book (words (line text i)) places) c.requires.first told.1)
-    (subst (λ (i : ℕ). AtLine i fault (DueFault text i (ValuesFault 2 no_state))) second c.in-err-values.ensures))
+    (subst (λ (i : ℕ). AtLine i fault (DueFault text i (ValuesFault 2 no_state))) second c.in_err-values.ensures))

@@ -12,13 +12,13 @@ returns c =
     let text = c.args.text.now in
     let here = c.args.cursor.now in
     let some : here.start < length text = c.if-start-text.false in
-    let after = line_next c.requires.at c.piece-end-end.ensures some in
+    let after = line_next c.requires.at c.piece_end-end.ensures some in
     record {
       next = (
-        line_listed c.requires.at c.piece-end-end.ensures some,
+        line_listed c.requires.at c.piece_end-end.ensures some,
         refl,
-        subst (λ (bytes : List ℕ). LineIs bytes (here.line + 1) c.args.role c.line-of.result)
-            (sym (line_is c.requires.at c.piece-end-end.ensures some)) c.line-of.ensures,
+        subst (λ (bytes : List ℕ). LineIs bytes (here.line + 1) c.args.role c.line_of.result)
+            (sym (line_is c.requires.at c.piece_end-end.ensures some)) c.line_of.ensures,
       );
       at = subst (λ (n : ℕ). LineAt text (here.line + 1) n) (sym c.min-cursor.ensures) after;
     }

@@ -6,10 +6,10 @@ use Rattle.text.proofs.names.read_names.Goals as goal
 
 pub returns-in-Err : goal.returns-in-Err
 returns-in-Err c =
-    let found = subst (λ (w : List ℕ). NoNewName c.args.table c.loop-j.places w c.in-Err.cause) c.nth-word-word.ensures.bytes c.in-Err.ensures in
-    (refl, word c.loop-j.j (c.in-ok-check-count.ensures ∙ c.column-count-columns.ensures) (omega arith) c.loop-j.invariant.good (name_fault c.loop-j.invariant c.in-Err.cause found) c.nth-word-word.ensures.column)
+    let found = subst (λ (w : List ℕ). NoNewName c.args.table c.loop-j.places w c.in-Err.cause) c.nth_word-word.ensures.bytes c.in-Err.ensures in
+    (refl, word c.loop-j.j (c.in_ok-check_count.ensures ∙ c.column_count-columns.ensures) (omega arith) c.loop-j.invariant.good (name_fault c.loop-j.invariant c.in-Err.cause found) c.nth_word-word.ensures.column)
 
 pub loop-j-preserved : goal.loop-j-preserved
 loop-j-preserved c =
     let told = c.in-Ok.ensures in
-    seen_more c.loop-j.invariant told.0 (told.1 ∙ c.nth-word-word.ensures.bytes) told.2 (omega arith)
+    seen_more c.loop-j.invariant told.0 (told.1 ∙ c.nth_word-word.ensures.bytes) told.2 (omega arith)

@@ -16,17 +16,17 @@ returns-in-Err c =
 pub returns-in-Some : goal.returns-in-Some
 returns-in-Some c =
     let headed = c.in-Ok.ensures in
-    let read = c.read-rows-rows.ensures in
-    let end = subst (λ (o : Option Fault). RowsEnd c.args.text.now c.in-Ok.heading.link_places c.args.links.now c.read-rows-rows.result.count o) c.in-Some.is read.end in
+    let read = c.read_rows-rows.ensures in
+    let end = subst (λ (o : Option Fault). RowsEnd c.args.text.now c.in-Ok.heading.link_places c.args.links.now c.read_rows-rows.result.count o) c.in-Some.is read.end in
     record { places = _; memory = read.read; outcome = row (omega arith) _ _ _ headed.0 read.read.rows end }
 
-pub returns-in-Err-check-book : goal.returns-in-Err-check-book
-returns-in-Err-check-book c =
+pub returns-in-Err-check_book : goal.returns-in-Err-check_book
+returns-in-Err-check_book c =
     let headed = c.in-Ok.ensures in
-    let read = c.read-rows-rows.ensures in
-    let end = subst (λ (o : Option Fault). RowsEnd c.args.text.now c.in-Ok.heading.link_places c.args.links.now c.read-rows-rows.result.count o) c.in-default.is read.end in
+    let read = c.read_rows-rows.ensures in
+    let end = subst (λ (o : Option Fault). RowsEnd c.args.text.now c.in-Ok.heading.link_places c.args.links.now c.read_rows-rows.result.count o) c.in_default.is read.end in
     record {
       places = _;
       memory = read.read;
-      outcome = book _ _ _ (record { short = omega arith; headed = headed.0; rows = read.read.rows; end = end }) c.in-Err-check-book.ensures;
+      outcome = book _ _ _ (record { short = omega arith; headed = headed.0; rows = read.read.rows; end = end }) c.in-Err-check_book.ensures;
     }

@@ -35,4 +35,4 @@ returns-in-Err c =
     record { read = c.loop-row.invariant.2; end = (found.0, full_as full back found.1) }
 
 pub returns : goal.returns
-returns c = record { read = c.loop-row.invariant.2; end = omega (arith, c.in-default.ensures, c.loop-row.invariant.0.listed, c.loop-row.invariant.1) }
+returns c = record { read = c.loop-row.invariant.2; end = omega (arith, c.in_default.ensures, c.loop-row.invariant.0.listed, c.loop-row.invariant.1) }

@@ -6,11 +6,11 @@ use Rattle.text.proofs.words.word_start.Goals as goal
 pub loop-init : goal.loop-init
 loop-init c = word_first c.args.line.now
 
-pub piece-end-start-requires : goal.piece-end-start-requires
-piece-end-start-requires c = c.loop.invariant.within
+pub piece_end-start-requires : goal.piece_end-start-requires
+piece_end-start-requires c = c.loop.invariant.within
 
 pub loop-preserved : goal.loop-preserved
-loop-preserved c = word_next c.loop.invariant c.piece-end-start.ensures (omega arith)
+loop-preserved c = word_next c.loop.invariant c.piece_end-start.ensures (omega arith)
 
 pub returns : goal.returns
 returns c =
