@@ -1,14 +1,13 @@
 -- What the entries say of the links agrees with what the book holds, all along a history; so each entry is right.
-use Rattle.std.proofs.Common.{◌≡◌, ℕ, zero, suc, ◌<◌, ◌≤◌, Bool, true, false, cond, eqb, ◌≢◌, List, [], ◌∷◌, length, get_or, set, replicate, Ok, Err, Result, sym, refl, ap, ◌∙◌, subst, arith, length-set, get_or-set_other, get_or-set_same, eq-eqb, ne_eqb}
+use Rattle.std.proofs.Common.{◌≡◌, ℕ, zero, suc, ◌<◌, Bool, true, false, cond, eqb, List, [], ◌∷◌, length, get_or, set, replicate, Ok, Err, sym, refl, ap, ◌∙◌, subst, arith, length-set, get_or-set_other, get_or-set_same, eq-eqb, ne_eqb}
 use native.Mathlib.Decide.{ℕ_discrete}
 use lib.ListN.{length-replicate}
 use Rattle.book.specs.declared.permit.Permit.{Permit}
-use Rattle.book.specs.declared.refusal.Refusal.{Refusal}
 use Rattle.book.specs.declared.refusal.Refusal.TheVariants.{Stations, TooManyRows, BadRow, NoSuchLink, NotInService, MapStands, NoMap, NothingSettled, NoMemory}
 use Rattle.book.specs.declared.refusal.PermitRefusal.{PermitRefusal}
 use Rattle.book.specs.declared.refusal.PermitRefusal.TheVariants.{OtherBook, NotOut, StillGood}
-use Rattle.book.specs.Matter.{Matter, links, In, Struck, serviced, stricken}
-use Rattle.book.specs.Calls.{Opens, Withdraws, GivesBack, Strikes, Annuls, Out, Good, NotGood}
+use Rattle.book.specs.Matter.{Matter, links, serviced, stricken}
+use Rattle.book.specs.Calls.{Opens, Out, Good, NotGood}
 use Rattle.book.specs.History.{Entry, Opening, Linked, opened, then, Does, Right, RightPermit, AllRight, OutThen, GoodThen, in_service, is_struck, withdraw, give_back, strike, annul}
 
 pub record Agrees (o : Opening) (es : List Entry) (b : Matter) : Type 0 where

@@ -1,6 +1,6 @@
 -- What each call does to a book, for every input and every refusal: relations between the book before, what is asked, the answer and
 -- the book after.
-use Rattle.std.specs.Prelude.{◌≡◌, ℕ, ◌<◌, ◌≤◌, Bool, true, false, List, length, Ok, Err, Result, ◌≢◌, slice_index_or}
+use Rattle.std.specs.Prelude.{◌≡◌, ℕ, ◌<◌, ◌≤◌, true, false, List, length, Ok, Err, Result, ◌≢◌, slice_index_or}
 use Rattle.network.specs.Network.{no_row}
 use Rattle.network.specs.Rows.{Sound, Refused}
 use Rattle.network.specs.declared.row.Row.{Row}

@@ -1,5 +1,5 @@
 -- What a book says, in the words of its subject.
-use Rattle.std.specs.Prelude.{◌≡◌, ℕ, ◌<◌, Bool, true, false, List, [], length, replicate, vec_items, slice_index_or, slice_set}
+use Rattle.std.specs.Prelude.{◌≡◌, ℕ, Bool, true, false, List, [], length, replicate, vec_items, slice_index_or, slice_set}
 use Rattle.network.specs.Network.{Network}
 use Rattle.network.specs.declared.row.Row.{Row}
 use Rattle.book.specs.declared.book.Book.{Book}

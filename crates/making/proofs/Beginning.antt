@@ -1,13 +1,11 @@
 -- The labels and sums before the first level.
-use Rattle.std.proofs.Common.{◌≡◌, ℕ, ◌^◌, ◌<◌, ◌≤◌, List, [], length, get_or, sym, refl, ◌∙◌, subst, arith}
+use Rattle.std.proofs.Common.{◌≡◌, ℕ, ◌^◌, ◌<◌, List, [], length, get_or, sym, refl, ◌∙◌, subst, arith}
 use native.Mathlib.Decide.{dec_lt}
 use Rattle.std.proofs.lemmas.List.{get_or_past}
 use Rattle.network.specs.Lists.{Among}
 use Rattle.network.specs.Network.{Network, Proper, Hop, Joined, Small}
 use Rattle.network.proofs.Levels.{joined_self}
 use Rattle.network.proofs.Routes.{hop_delay}
-use Rattle.tree.proofs.Growing.{Grouped}
-use Rattle.tree.proofs.Making.{Part}
 use Rattle.tree.proofs.Ranks.{hop_of}
 use Rattle.making.specs.Joins.{Grown}
 use Rattle.making.specs.Labels.{label_of}

@@ -1,17 +1,17 @@
 -- The steps of the links, for labels and sums in memory.
-use Rattle.std.proofs.Common.{◌≡◌, ℕ, zero, suc, ◌+◌, ◌*◌, ◌^◌, ◌<◌, ◌≤◌, Bool, true, false, ◌≢◌, ◌⊎◌, List, [], ◌∷◌, length, get_or, set, sym, refl, ap, ◌∙◌, subst, inl, inr, arith, length-set, get_or-set_other, get_or-set_same}
-use native.Mathlib.Decide.{ℕ_discrete, dec_lt}
+use Rattle.std.proofs.Common.{◌≡◌, ℕ, suc, ◌+◌, ◌*◌, ◌<◌, ◌≤◌, ◌≢◌, ◌⊎◌, List, [], ◌∷◌, length, get_or, set, sym, refl, ap, ◌∙◌, subst, inl, inr, arith, length-set, get_or-set_other, get_or-set_same}
+use native.Mathlib.Decide.{ℕ_discrete}
 use Rattle.network.specs.Laws.{Bounded}
 use Rattle.network.specs.Levels.{IsLevel}
-use Rattle.network.specs.Lists.{Among, Distinct}
+use Rattle.network.specs.Lists.{Among}
 use Rattle.network.specs.Network.{Network, Hop, Small, row, delay, sum}
 use Rattle.network.proofs.Levels.{small_grows}
 use Rattle.network.proofs.Lists.{pigeonhole}
-use Rattle.network.proofs.Routes.{flip, hop_stations, same_ends}
-use Rattle.tree.proofs.Growing.{Grouped, skipped, inside, joins_two}
+use Rattle.network.proofs.Routes.{hop_stations}
+use Rattle.tree.proofs.Growing.{skipped, inside, joins_two}
 use Rattle.tree.proofs.Making.{Part, part_join, part_stays}
-use Rattle.tree.proofs.Marks.{Merged, merged_self, stays}
-use Rattle.tree.proofs.Ranks.{Past, before_past, past_before, hop_of}
+use Rattle.tree.proofs.Marks.{Merged, merged_self}
+use Rattle.tree.proofs.Ranks.{Past, before_past, past_before}
 use Rattle.making.specs.Joins.{Fit, Grown}
 use Rattle.making.specs.Labels.{label_of}
 

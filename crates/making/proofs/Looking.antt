@@ -1,5 +1,5 @@
 -- A link is looked at, by what the code has read of it.
-use Rattle.std.proofs.Common.{◌≡◌, ℕ, suc, ◌+◌, ◌<◌, ◌≤◌, Bool, true, false, ◌≢◌, List, length, get_or, set, sym, refl, ◌∙◌, subst, inl, inr, arith}
+use Rattle.std.proofs.Common.{◌≡◌, ℕ, suc, ◌+◌, ◌<◌, Bool, true, false, ◌≢◌, List, length, get_or, set, sym, refl, ◌∙◌, subst, inl, arith}
 use Rattle.network.specs.Levels.{IsLevel}
 use Rattle.network.specs.Network.{Network, Hop, row, delay}
 use Rattle.network.proofs.Levels.{level_of_small, small_of_level}

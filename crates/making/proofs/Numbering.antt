@@ -1,7 +1,7 @@
 -- Groups get their numbers: one station after the other, one level after the other.
-use Rattle.std.proofs.Common.{◌≡◌, ℕ, suc, ◌+◌, ◌^◌, ◌<◌, ◌≤◌, ◌≢◌, ◌⊎◌, List, length, get_or, set, sym, refl, ◌∙◌, subst, inl, inr, arith, get_or-set_other, get_or-set_same}
-use native.Mathlib.Decide.{ℕ_discrete, dec_lt, dec_le}
-use Rattle.network.specs.Network.{Network, Proper, Route, here, step, Each, none, and, Small, Under}
+use Rattle.std.proofs.Common.{◌≡◌, ℕ, suc, ◌+◌, ◌^◌, ◌<◌, ◌≤◌, ◌≢◌, List, length, get_or, set, sym, refl, ◌∙◌, subst, inl, inr, arith, get_or-set_other, get_or-set_same}
+use native.Mathlib.Decide.{ℕ_discrete, dec_le}
+use Rattle.network.specs.Network.{Network, Proper, Route, here, step, Each, and, Small, Under}
 use Rattle.network.proofs.Routes.{hop_delay}
 use Rattle.tree.specs.Components.{Forms}
 use Rattle.tree.specs.Joining.{Earlier}

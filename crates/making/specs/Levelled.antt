@@ -1,5 +1,5 @@
 -- Where the making stands between two levels.
-use Rattle.std.specs.Prelude.{◌≡◌, ℕ, suc, ◌+◌, ◌≤◌, List, length}
+use Rattle.std.specs.Prelude.{◌≡◌, ℕ, ◌≤◌, List, length}
 use Rattle.network.specs.Network.{Network, Small}
 use Rattle.making.specs.Joins.{Grown}
 use Rattle.making.specs.Numbers.{Numbered}

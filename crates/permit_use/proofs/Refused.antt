@@ -1,7 +1,7 @@
 -- A link that cannot be withdrawn is not in service.
-use Rattle.std.proofs.Common.{◌≡◌, ℕ, ◌≤◌, Bool, true, false, length, get_or, vec_items, vec_len, sym, refl, arith}
+use Rattle.std.proofs.Common.{◌≡◌, ℕ, Bool, true, false, get_or, vec_items, sym, refl, arith}
 use Rattle.std.proofs.lemmas.List.{get_or_past}
-use Rattle.book.specs.Matter.{Matter, matter, links}
+use Rattle.book.specs.Matter.{matter}
 use Rattle.book.specs.Calls.{NotWithdrawn}
 use Rattle.book.specs.declared.book.Book.{Book}
 use Rattle.book.specs.declared.refusal.Refusal.{Refusal}

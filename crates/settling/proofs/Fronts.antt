@@ -1,8 +1,7 @@
 -- Climbing to the front.
-use Rattle.std.proofs.Common.{◌≡◌, ℕ, ◌⊎◌, Some, None, Option, sym, refl, ap, ◌∙◌, subst, inl, inr, arith}
+use Rattle.std.proofs.Common.{◌≡◌, ℕ, ◌⊎◌, Some, None, Option, sym, refl, ap, ◌∙◌, subst, inl, inr}
 use Rattle.tree.specs.Tree.{Tree, Below, self, up}
 use Rattle.tree.proofs.Words.{some_none}
-use Rattle.walk.specs.Rules.{Front}
 use Rattle.walk.specs.Able.{Fronted}
 
 below_up : {t : Tree} {c d p : ℕ} → Below t c d → t.parent c ≡ Some p → (c ≡ d) ⊎ Below t p d

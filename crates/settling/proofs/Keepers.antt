@@ -1,5 +1,5 @@
 -- What a keeper tells of its places, said of stations and nodes.
-use Rattle.std.proofs.Common.{◌≡◌, ℕ, ◌<◌, ◌≤◌, length, Some, None, Option, sym, refl, ap, ◌∙◌, subst, arith, le-ltb, lt-ltb}
+use Rattle.std.proofs.Common.{◌≡◌, ℕ, ◌<◌, length, None, Option, sym, ap, ◌∙◌, subst, arith, le-ltb, lt-ltb}
 use Rattle.tree.specs.Tree.{Tree, Runs}
 use Rattle.walk.specs.State.{Changed}
 use Rattle.walk.specs.Rules.{Lowest, Nothing}

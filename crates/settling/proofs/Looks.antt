@@ -1,12 +1,12 @@
 -- Whether a visit goes on, and what is taken in it.
-use Rattle.std.proofs.Common.{◌≡◌, ℕ, ◌+◌, ◌-◌, ◌/◌, ◌^◌, ◌<◌, ◌≤◌, Bool, true, false, eqb, ◌⊎◌, List, [], ◌∷◌, length, Some, None, MatchBool, Option, sym, refl, ap, ◌∙◌, subst, inl, inr, arith, MatchOption}
+use Rattle.std.proofs.Common.{◌≡◌, ℕ, ◌+◌, ◌-◌, ◌<◌, Bool, true, false, eqb, List, ◌∷◌, length, Some, None, MatchBool, Option, sym, refl, ap, ◌∙◌, subst, inl, inr, arith, MatchOption}
 use Rattle.std.proofs.lemmas.Bool.{eqb-true, eqb-false, cases_lt}
 use Rattle.std.proofs.lemmas.List.{get_or_past}
 use Rattle.network.specs.Network.{Network}
 use Rattle.tree.specs.Tree.{Tree}
 use Rattle.tree.proofs.Words.{some_none, same_some}
 use Rattle.walk.specs.declared.frame.Frame.{Frame}
-use Rattle.walk.specs.State.{Core, State, Changed}
+use Rattle.walk.specs.State.{Core, Changed}
 use Rattle.walk.specs.Rules.{Lowest}
 use Rattle.walk.specs.Steps.{Going, Ended, risen, coarse, Now, Step, leave, end}
 use Rattle.walk.proofs.Handover.{placed_moved}
@@ -14,7 +14,7 @@ use Rattle.walk.proofs.Runs.{changed_set}
 use Rattle.shelf.specs.Holds.{Holds, Bare, bucket_at, lifted}
 use Rattle.keeper.specs.Keeps.{Keeps}
 use Rattle.settling.specs.declared.trail.Trail.{Trail}
-use Rattle.settling.specs.Means.{final_of, base_of, count_of, sofar_of, shelf_of, core_of}
+use Rattle.settling.specs.Means.{base_of, count_of, sofar_of, shelf_of, core_of}
 use Rattle.settling.specs.Asks.{Brought}
 use Rattle.settling.specs.Parts.{Watch, Counting, FoundEmpty, Took}
 

@@ -1,9 +1,9 @@
 -- Following a link.
-use Rattle.std.proofs.Common.{◌≡◌, ℕ, ◌+◌, ◌<◌, ◌≤◌, ◌⊎◌, length, IfSome, Some, None, Option, sym, refl, ap, ◌∙◌, subst, inl, inr, arith}
+use Rattle.std.proofs.Common.{◌≡◌, ℕ, ◌+◌, ◌<◌, ◌≤◌, length, IfSome, Some, None, Option, sym, refl, ap, ◌∙◌, subst, inl, inr, arith}
 use Rattle.std.proofs.lemmas.Bool.{cases_lt}
 use Rattle.network.specs.Network.{Network, Hop, delay}
 use Rattle.tree.specs.Tree.{Tree, Runs, Fits}
-use Rattle.tree.proofs.Words.{some_none, same_some}
+use Rattle.tree.proofs.Words.{some_none}
 use Rattle.walk.specs.State.{Core, Changed}
 use Rattle.walk.specs.Rules.{Front, Link, skip, keep, lower}
 use Rattle.shelf.specs.Holds.{Holds}

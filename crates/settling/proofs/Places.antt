@@ -1,13 +1,13 @@
 -- Where a child belongs, and how it gets there.
 use Rattle.std.proofs.Common.{◌≡◌, ℕ, suc, ◌+◌, ◌-◌, ◌/◌, ◌^◌, ◌<◌, ◌≤◌, Bool, true, false, ◌≢◌, length, Some, None, Option, sym, refl, ap, ◌∙◌, subst, add-one, arith, MatchOption}
-use Rattle.tree.specs.Tree.{Tree, Runs, width, buckets_in_all}
+use Rattle.tree.specs.Tree.{Tree, width, buckets_in_all}
 use Rattle.walk.specs.State.{Changed}
-use Rattle.walk.specs.Rules.{Lowest, Falls, Slot, within, past, Belongs, falls, unknown, nothing, one, there, moved}
+use Rattle.walk.specs.Rules.{Lowest, Slot, within, past, Belongs, falls, unknown, nothing, one, there, moved}
 use Rattle.walk.specs.Able.{Ready}
 use Rattle.walk.proofs.Runs.{changed_set}
 use Rattle.shelf.specs.Holds.{Holds, MayPut, bucket_at, lifted, placed}
 use Rattle.keeper.specs.Keeps.{Keeps, LeastFrom}
-use Rattle.settling.specs.Means.{sofar_of, shelf_of}
+use Rattle.settling.specs.Means.{sofar_of}
 use Rattle.settling.specs.Asks.{Walkable, Brought}
 use Rattle.settling.proofs.Keepers.{lowest_of}
 

@@ -1,5 +1,5 @@
 -- No call changes how large a trail, a shelf or a keeper is.
-use Rattle.std.proofs.Common.{◌≡◌, ℕ, ◌≤◌, sym, refl, ap, ◌∙◌, subst, arith}
+use Rattle.std.proofs.Common.{refl, ◌∙◌, arith}
 use Rattle.shelf.specs.Holds.{Holds}
 use Rattle.keeper.specs.Keeps.{Keeps}
 use Rattle.map.specs.declared.map.Map.{Map}

@@ -1,10 +1,10 @@
 -- What the laws of the walk give to a step.
-use Rattle.std.proofs.Common.{◌≡◌, ℕ, suc, ◌+◌, ◌*◌, ◌^◌, ◌<◌, ◌≤◌, List, [], ◌∷◌, Some, None, Option, sym, refl, ap, ◌∙◌, subst, add-one, arith}
+use Rattle.std.proofs.Common.{◌≡◌, ℕ, suc, ◌+◌, ◌*◌, ◌^◌, ◌<◌, ◌≤◌, List, ◌∷◌, Some, None, sym, refl, ap, ◌∙◌, subst, add-one, arith}
 use Rattle.network.specs.Network.{Network}
 use Rattle.tree.specs.Tree.{Tree, Inner}
 use Rattle.tree.proofs.Nodes.{station_only}
 use Rattle.walk.specs.declared.frame.Frame.{Frame}
-use Rattle.walk.specs.State.{Core, State, Changed, called}
+use Rattle.walk.specs.State.{Core, called}
 use Rattle.walk.specs.Rules.{begun}
 use Rattle.walk.specs.Steps.{Open, Going, Taken, Visiting, Step, Walk, then}
 use Rattle.walk.specs.Laws.{Given, most_moves}

@@ -1,7 +1,7 @@
 -- What code has to know of a tree alone follows from its fitting a network.
-use Rattle.std.proofs.Common.{◌≡◌, ℕ, suc, ◌+◌, ◌<◌, ◌≤◌, Some, None, Option, arith}
+use Rattle.std.proofs.Common.{suc, arith}
 use Rattle.network.specs.Network.{Network}
-use Rattle.tree.specs.Tree.{Tree, Fits, Runs, buckets_in_all}
+use Rattle.tree.specs.Tree.{Tree, Fits, Runs}
 use Rattle.tree.proofs.Totals.{total_longer}
 use Rattle.settling.specs.Asks.{Walkable}
 

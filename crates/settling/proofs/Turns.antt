@@ -1,23 +1,22 @@
 -- The steps, from what their parts promise.
-use Rattle.std.proofs.Common.{◌≡◌, ℕ, suc, ◌+◌, ◌/◌, ◌<◌, ◌≤◌, Bool, true, false, ◌⊎◌, List, [], ◌∷◌, length, get_or, set, Some, None, vec_items, vec_len, MatchBool, Option, sym, refl, ap, ◌∙◌, subst, inl, inr, add-one, arith}
+use Rattle.std.proofs.Common.{◌≡◌, ℕ, ◌+◌, ◌/◌, ◌<◌, ◌≤◌, Bool, true, false, List, ◌∷◌, length, get_or, set, None, vec_items, vec_len, MatchBool, sym, refl, ap, ◌∙◌, subst, inl, inr, add-one, arith}
 use Rattle.std.proofs.lemmas.List.{length-set}
 use Rattle.std.proofs.lemmas.Bool.{cases_eq}
 use Rattle.network.specs.Network.{Network}
 use Rattle.tree.specs.Tree.{Tree, Fits, width}
 use Rattle.walk.specs.declared.frame.Frame.{Frame}
 use Rattle.walk.specs.State.{Core, State, Changed}
-use Rattle.walk.specs.Rules.{Expand}
-use Rattle.walk.specs.Steps.{Going, Ended, Taken, Step, visit, expand, again, rise}
+use Rattle.walk.specs.Steps.{Going, Ended, Step, visit, expand, again, rise}
 use Rattle.walk.specs.Able.{Able, DueNow}
 use Rattle.walk.proofs.Runs.{changed_set}
 use Rattle.shelf.specs.Holds.{Holds, bucket_at}
 use Rattle.keeper.specs.Keeps.{Keeps}
 use Rattle.map.specs.declared.map.Map.{Map}
 use Rattle.settling.specs.declared.trail.Trail.{Trail}
-use Rattle.settling.specs.Means.{final_of, base_of, count_of, sofar_of, shelf_of, core_of, SettledAt, Risen, Opened}
+use Rattle.settling.specs.Means.{final_of, base_of, count_of, sofar_of, shelf_of, core_of, Risen, Opened}
 use Rattle.settling.specs.Asks.{Room, Alike, Visited}
-use Rattle.settling.specs.Parts.{Kids, Grown, FoundEmpty, Took}
-use Rattle.settling.specs.Turns.{Entered, beginning, again as entered_again, first as entered_first}
+use Rattle.settling.specs.Parts.{Kids, FoundEmpty, Took}
+use Rattle.settling.specs.Turns.{Entered, again as entered_again, first as entered_first}
 use Rattle.settling.proofs.Kids.{opened_base}
 
 pub is_going : (t : Tree) (s : Core) (f : Frame) (r : Bool) → r ≡ true → MatchBool r (Going t s f) (Ended t s f) → Going t s f

@@ -1,17 +1,15 @@
 -- Visiting a station.
-use Rattle.std.proofs.Common.{◌≡◌, ℕ, ◌<◌, ◌≤◌, List, length, get_or, set, Some, None, vec_items, vec_len, Option, sym, refl, ap, ◌∙◌, subst, arith}
+use Rattle.std.proofs.Common.{◌≡◌, ℕ, ◌<◌, ◌≤◌, List, length, get_or, Some, None, vec_items, vec_len, Option, sym, ap, ◌∙◌, subst, arith}
 use Rattle.std.proofs.lemmas.List.{length-set}
-use Rattle.network.specs.Network.{Network}
 use Rattle.tree.specs.Tree.{Tree}
-use Rattle.walk.specs.State.{Core, Changed, called}
-use Rattle.walk.specs.Rules.{Call, Links}
-use Rattle.walk.specs.Able.{Safe}
+use Rattle.walk.specs.State.{Changed, called}
+use Rattle.walk.specs.Rules.{Call}
 use Rattle.walk.proofs.Runs.{changed_set}
 use Rattle.shelf.specs.Holds.{Holds}
 use Rattle.keeper.specs.Keeps.{Keeps, LeastFrom, delay_at}
 use Rattle.map.specs.declared.map.Map.{Map}
 use Rattle.settling.specs.declared.trail.Trail.{Trail}
-use Rattle.settling.specs.Means.{final_of, base_of, count_of, sofar_of, shelf_of, core_of, SettledAt}
+use Rattle.settling.specs.Means.{final_of, sofar_of, shelf_of, core_of, SettledAt}
 use Rattle.settling.specs.Asks.{Room}
 use Rattle.settling.proofs.Keepers.{sofar_in}
 

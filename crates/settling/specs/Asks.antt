@@ -1,5 +1,5 @@
 -- What the parts of a visit ask of each other, and what they promise.
-use Rattle.std.specs.Prelude.{◌≡◌, ℕ, ◌+◌, ◌^◌, ◌<◌, ◌≤◌, ◌≢◌, length, Some, None, vec_items, vec_len, Option}
+use Rattle.std.specs.Prelude.{◌≡◌, ℕ, ◌+◌, ◌^◌, ◌<◌, ◌≤◌, ◌≢◌, length, Some, None, vec_len, Option}
 use Rattle.network.specs.Network.{Network, Hop}
 use Rattle.tree.specs.Tree.{Tree, Fits, Sized, Runs, buckets_in_all}
 use Rattle.walk.specs.State.{Core, called}
@@ -10,7 +10,7 @@ use Rattle.keeper.specs.Keeps.{Keeps}
 use Rattle.map.specs.declared.map.Map.{Map}
 use Rattle.map.specs.Means.{tree_of}
 use Rattle.settling.specs.declared.trail.Trail.{Trail}
-use Rattle.settling.specs.Means.{final_of, sofar_of, shelf_of, core_of, SettledAt}
+use Rattle.settling.specs.Means.{final_of, shelf_of, core_of, SettledAt}
 
 -- the map is a tree of the network
 pub record Charted (g : Network) (m : Map) : Type 0 where

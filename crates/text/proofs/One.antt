@@ -1,14 +1,12 @@
 -- A text spells at most one sheet.
-use Rattle.std.proofs.Common.{◌≡◌, ℕ, ◌+◌, ◌<◌, ◌≤◌, List, [], length, get_or, sym, refl, ap, ◌∙◌, subst, arith}
+use Rattle.std.proofs.Common.{◌≡◌, ℕ, ◌<◌, List, [], length, get_or, sym, refl, ap, ◌∙◌, arith}
 use native.Mathlib.Decide.{dec_lt}
 use Rattle.word.specs.Numbers.{ReadsNumber, value}
 use Rattle.word.specs.States.{spelled_state}
 use Rattle.word.specs.declared.state.State.{State}
 use Rattle.word.specs.declared.state.State.TheVariants.{In, Off}
-use Rattle.text.specs.Split.{words}
-use Rattle.text.specs.Tables.{names, width}
+use Rattle.text.specs.Tables.{width}
 use Rattle.text.specs.Columns.{Ordered}
-use Rattle.text.specs.Due.{line}
 use Rattle.text.specs.Sheet.{under, SpelledHead, SpelledLink, no_link}
 use Rattle.text.specs.Read.{Accepted}
 use Rattle.text.specs.declared.table.Table.{Table}

@@ -1,9 +1,9 @@
 -- One more line of links is read.
-use Rattle.std.proofs.Common.{◌≡◌, ℕ, ◌+◌, ◌<◌, ◌≤◌, min, ◌≢◌, List, [], length, get_or, set, sym, refl, ap, ◌∙◌, subst, arith, length-set, get_or-set_other, get_or-set_same}
+use Rattle.std.proofs.Common.{◌≡◌, ℕ, ◌+◌, ◌<◌, List, length, get_or, set, sym, refl, ◌∙◌, subst, arith, length-set, get_or-set_other, get_or-set_same}
 use native.Mathlib.Decide.{ℕ_discrete}
 use Rattle.text.specs.Split.{words}
 use Rattle.text.specs.Due.{line, Stands}
-use Rattle.text.specs.Sheet.{SpelledLink, Rows, RowsRead, RowFault, WrongRow, empty, wrong, more, values, room, no_link}
+use Rattle.text.specs.Sheet.{SpelledLink, RowsRead, RowFault, empty, wrong, more, values, room, no_link}
 use Rattle.word.specs.declared.fault.Cause.{Cause}
 use Rattle.text.specs.declared.sheet.SheetLink.{SheetLink}
 

@@ -1,5 +1,5 @@
 -- A line under the columns of a table: its count of words, and its first fault.
-use Rattle.std.specs.Prelude.{◌≡◌, ℕ, ◌+◌, ◌<◌, ◌≤◌, List, [], length, ◌≢◌, slice_index, slice_index_or}
+use Rattle.std.specs.Prelude.{◌≡◌, ℕ, ◌+◌, ◌<◌, List, [], length, ◌≢◌, slice_index, slice_index_or}
 use Rattle.text.specs.Split.{words, column_of}
 use Rattle.text.specs.Tables.{names, width, Named}
 use Rattle.text.specs.declared.table.Table.{Table}

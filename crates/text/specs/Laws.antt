@@ -1,5 +1,5 @@
 -- What follows of splitting, and of what a text spells: said the other way round, by joining.
-use Rattle.std.specs.Prelude.{◌≡◌, ℕ, ◌<◌, ◌⊎◌, List, [], ◌∷◌, ◌++◌, length, slice_index_or}
+use Rattle.std.specs.Prelude.{◌≡◌, ℕ, ◌<◌, List, [], ◌∷◌, ◌++◌, slice_index_or}
 use Rattle.word.specs.Bytes.{separator, line_feed}
 use Rattle.text.specs.Split.{words, lines, Free}
 use Rattle.text.specs.Sheet.{no_link}

@@ -1,5 +1,5 @@
 -- What the book says of a sheet that is well written, and where its fault shows.
-use Rattle.std.specs.Prelude.{◌≡◌, ℕ, ◌+◌, ◌<◌, ◌≤◌, ◌⊎◌, List, length, slice_index, slice_index_or}
+use Rattle.std.specs.Prelude.{◌≡◌, ℕ, ◌+◌, ◌<◌, ◌≤◌, ◌⊎◌, List, slice_index, slice_index_or}
 use Rattle.network.specs.Rows.{Sound, Refused}
 use Rattle.network.specs.declared.refusal.RowRefusal.{RowRefusal}
 use Rattle.network.specs.declared.refusal.RowRefusal.TheVariants.{EndOutside, EqualEnds, NoDelay}

@@ -12,7 +12,7 @@ use Rattle.text.specs.declared.sheet.SheetLink.{SheetLink}
 use Rattle.word.specs.declared.state.State.TheVariants.{In}
 use Rattle.word.specs.declared.fault.Fault.{Fault}
 use Rattle.word.specs.declared.fault.Cause.{Cause}
-use Rattle.word.specs.declared.fault.Cause.TheVariants.{InTable, TextTooLong}
+use Rattle.word.specs.declared.fault.Cause.TheVariants.{InTable}
 use Rattle.word.specs.declared.fault.TableFault.TheVariants.{LineDue, TooManyLines}
 
 -- the longest text, in bytes

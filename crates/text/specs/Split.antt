@@ -1,5 +1,5 @@
 -- A text is split into lines at line feeds, and a line into words at separators.
-use Rattle.std.specs.Prelude.{◌≡◌, ℕ, zero, suc, ◌+◌, ◌<◌, ◌≤◌, cond, List, [], ◌∷◌, ◌++◌, length, drop, ◌==◌, ◌≢◌, slice_index}
+use Rattle.std.specs.Prelude.{◌≡◌, ℕ, zero, suc, ◌+◌, ◌<◌, ◌≤◌, cond, List, [], ◌∷◌, length, drop, ◌==◌, ◌≢◌, slice_index}
 use Rattle.std.specs.List.{between}
 use Rattle.word.specs.Bytes.{separator, line_feed}
 use Rattle.text.specs.declared.split.Stop.{Stop}

@@ -1,5 +1,5 @@
 -- One word read into the values of its line.
-use Rattle.std.specs.Prelude.{◌≡◌, ℕ, List, length, ◌≢◌, slice_index}
+use Rattle.std.specs.Prelude.{◌≡◌, ℕ, List, ◌≢◌, slice_index}
 use Rattle.text.specs.Values.{Spells}
 use Rattle.text.specs.declared.values.Values.{Values}
 

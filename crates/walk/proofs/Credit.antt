@@ -10,8 +10,8 @@ use Rattle.tree.proofs.Totals.{total_mono, total_ones, total_changed}
 use Rattle.tree.proofs.Words.{some_none, same_some}
 use Rattle.walk.specs.declared.frame.Frame.{Frame}
 use Rattle.walk.specs.State.{Shelf, Core, lowered, called}
-use Rattle.walk.specs.Rules.{nothing, one, Moved, there, moved, Link, skip, keep, lower, Links, begun, next, Call, put}
-use Rattle.walk.specs.Steps.{root, end, coarse, left}
+use Rattle.walk.specs.Rules.{nothing, one, Moved, there, moved, Link, skip, keep, lower, Links, begun, next, Call}
+use Rattle.walk.specs.Steps.{coarse}
 use Rattle.walk.specs.Laws.{in_service, most_moves}
 use Rattle.walk.proofs.Lines.{bucket_add}
 use Rattle.walk.proofs.Invariant.{On}

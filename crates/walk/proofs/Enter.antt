@@ -8,7 +8,7 @@ use Rattle.tree.proofs.Words.{some_none, same_some}
 use Rattle.walk.specs.declared.frame.Frame.{Frame}
 use Rattle.walk.specs.State.{Shelf, Core, Changed, grown}
 use Rattle.walk.specs.Rules.{Expand}
-use Rattle.walk.specs.Steps.{Open, coarse, entered}
+use Rattle.walk.specs.Steps.{Open, coarse}
 use Rattle.walk.proofs.Lines.{bucket_high, width_pos}
 use Rattle.walk.proofs.Invariant.{On, Expanded, line, Early, Standing, loose, fresh, visiting, through, waiting, Stack, Top, Facts}
 use Rattle.walk.proofs.Keep.{slot_at, belongs_at, belongs_keep, puts_off, puts_at}

@@ -6,8 +6,7 @@ use Rattle.tree.proofs.Nodes.{rooted, through, Through, Rooted}
 use Rattle.tree.proofs.Words.{some_none}
 use Rattle.walk.specs.State.{Core, State, called}
 use Rattle.walk.specs.Rules.{Lowest, Nothing, Call, Links, begun, next}
-use Rattle.walk.specs.Steps.{Blank, Begin, alone, root, expand, Walk, begin, then}
-use Rattle.walk.specs.Steps as steps
+use Rattle.walk.specs.Steps.{Blank, Begin, alone, root, Walk, begin, then}
 use Rattle.walk.specs.Laws.{Given, Next, RunsTo, EverySourceHasARun, most_moves, in_service}
 use Rattle.walk.proofs.Keep.{Change, change}
 use Rattle.walk.proofs.Start.{alone_looking}

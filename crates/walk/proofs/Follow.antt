@@ -3,13 +3,13 @@ use Rattle.std.proofs.Common.{◌≡◌, ℕ, suc, ◌+◌, ◌-◌, ◌/◌, �
 use native.Mathlib.Decide.{ℕ_discrete, dec_le}
 use lib.Pow.{shr_mono}
 use Rattle.network.specs.Network.{Network, Hop, row, delay}
-use Rattle.tree.specs.Tree.{Tree, up, Fits, width, Among, Distinct}
+use Rattle.tree.specs.Tree.{Tree, Fits, width, Among, Distinct}
 use Rattle.network.proofs.Routes.{other_end}
 use Rattle.tree.proofs.Nodes.{in_parent}
 use Rattle.tree.proofs.Words.{some_none, same_some}
 use Rattle.walk.specs.declared.frame.Frame.{Frame}
-use Rattle.walk.specs.State.{Shelf, Core, Changed, lowered, counted}
-use Rattle.walk.specs.Rules.{Lowest, Belongs, Counted, nothing, one, Placed, Moved, there, moved, Front, Link, skip, keep, lower, next, Puts, done, put, Expand}
+use Rattle.walk.specs.State.{Shelf, Core, Changed, lowered}
+use Rattle.walk.specs.Rules.{Lowest, Belongs, Counted, nothing, one, Placed, Moved, there, moved, Front, Link, skip, keep, lower, Puts, done, put, Expand}
 use Rattle.walk.proofs.Invariant.{Found, Facts}
 use Rattle.walk.proofs.Keep.{Change, change}
 use Rattle.walk.proofs.Look.{found'}

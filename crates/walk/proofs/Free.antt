@@ -6,7 +6,7 @@ use Rattle.tree.specs.Tree.{Tree, Fits}
 use Rattle.tree.proofs.Words.{some_none, same_some}
 use Rattle.walk.specs.declared.frame.Frame.{Frame}
 use Rattle.walk.specs.State.{Shelf, Core, State, Changed, called, counted}
-use Rattle.walk.specs.Rules.{Nothing, Belongs, Placed, Links, begun, Expand}
+use Rattle.walk.specs.Rules.{Belongs, Placed, Links, begun, Expand}
 use Rattle.walk.specs.Steps.{Going, Taken, Ended, Visiting, Blank, Begin, alone, root, Step, visit, expand, again, rise, leave, end, coarse, entered, left}
 use Rattle.walk.specs.Laws.{item_of, TakeAloneIsFree}
 use Rattle.walk.specs.Steps as steps

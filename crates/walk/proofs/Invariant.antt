@@ -3,7 +3,7 @@ use Rattle.std.proofs.Common.{◌≡◌, ℕ, ◌+◌, ◌*◌, ◌<◌, ◌≤�
 use Rattle.network.specs.Network.{Network, Route, Hop, Attained, Least, sum, delay}
 use Rattle.tree.specs.Tree.{Tree, Below, In, Inner, width}
 use Rattle.walk.specs.declared.frame.Frame.{Frame}
-use Rattle.walk.specs.State.{Core, State, grown}
+use Rattle.walk.specs.State.{Core, State}
 use Rattle.walk.specs.Rules.{Belongs, Slot}
 use Rattle.walk.specs.Steps.{Open, Same, coarse}
 

@@ -7,7 +7,7 @@ use Rattle.tree.proofs.Nodes.{root_same, above_other}
 use Rattle.tree.proofs.Routes.{wider}
 use Rattle.tree.proofs.Words.{some_none, same_some}
 use Rattle.walk.specs.declared.frame.Frame.{Frame}
-use Rattle.walk.specs.State.{Shelf, Core, State, Changed, grown, shelved}
+use Rattle.walk.specs.State.{Shelf, Core, State, Changed, shelved}
 use Rattle.walk.specs.Rules.{Lowest, Belongs, falls, unknown, Placed}
 use Rattle.walk.specs.Steps.{Open, Ended, coarse, left}
 use Rattle.walk.specs.Steps as steps

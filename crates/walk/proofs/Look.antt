@@ -8,7 +8,7 @@ use Rattle.network.proofs.Routes.{other_end}
 use Rattle.tree.proofs.Routes.{ends}
 use Rattle.tree.proofs.Words.{same_some}
 use Rattle.walk.specs.declared.frame.Frame.{Frame}
-use Rattle.walk.specs.State.{Shelf, Core, Changed, lowered, grown}
+use Rattle.walk.specs.State.{Shelf, Core, Changed, lowered}
 use Rattle.walk.specs.Rules.{Front, Belongs, Moved, Link, skip, keep, lower, Links, begun, next}
 use Rattle.walk.proofs.Invariant.{Found, Known, Early, Standing, loose, fresh, visiting, through, waiting, Facts, LookedTo}
 use Rattle.walk.proofs.Keep.{slot_at, belongs_at, belongs_keep, moved_set, front_one}

@@ -10,7 +10,7 @@ use Rattle.tree.proofs.Totals.{total_changed}
 use Rattle.tree.proofs.Words.{some_none, same_some}
 use Rattle.walk.specs.declared.frame.Frame.{Frame}
 use Rattle.walk.specs.State.{Shelf, Core, State, Changed, called, grown, counted, shelved}
-use Rattle.walk.specs.Rules.{Belongs, falls, unknown, Counted, nothing, one, there, Links, Call, Puts, done, put, Expand}
+use Rattle.walk.specs.Rules.{Belongs, falls, unknown, Counted, nothing, one, Links, Call, Puts, done, put, Expand}
 use Rattle.walk.specs.Steps.{Ended, Visiting, Blank, Begin, alone, root, Step, visit, expand, again, rise, leave, end, Walk, begin, then, coarse}
 use Rattle.walk.specs.Laws.{Given, EveryWalkMovesLittle, most_moves}
 use Rattle.walk.proofs.Lines.{suc_line, coarse_line}

@@ -7,10 +7,9 @@ use Rattle.tree.specs.Tree.{Tree, Below, Fits, width}
 use Rattle.network.proofs.Routes.{other_end}
 use Rattle.tree.proofs.Words.{some_none, same_some}
 use Rattle.walk.specs.declared.frame.Frame.{Frame}
-use Rattle.walk.specs.State.{Shelf, Core, State, Changed, lowered, called, counted}
+use Rattle.walk.specs.State.{Shelf, Core, State, Changed, lowered, called}
 use Rattle.walk.specs.Rules.{Belongs, falls, unknown, Slot, within, past, Counted, nothing, one, Placed, Moved, there, moved, Link, skip, keep, lower, Links, begun, next, Puts, done, put, Expand}
 use Rattle.walk.specs.Steps.{Taken, Visiting}
-use Rattle.walk.specs.Steps as steps
 use Rattle.walk.proofs.Invariant.{Facts, LookedTo, Inv}
 use Rattle.walk.proofs.Keep.{lowest_one, front_one}
 use Rattle.walk.proofs.Look.{links_looking}

@@ -3,11 +3,11 @@ use Rattle.std.proofs.Common.{◌≡◌, ℕ, zero, suc, ◌+◌, ◌-◌, ◌<�
 use native.Mathlib.Decide.{ℕ_discrete, dec_lt}
 use Rattle.network.specs.Network.{Network}
 use Rattle.tree.specs.Tree.{Tree, Below, self, Fits}
-use Rattle.tree.proofs.Nodes.{node_of, station_only, above_other, tell, through}
+use Rattle.tree.proofs.Nodes.{node_of, station_only, above_other, tell}
 use Rattle.tree.proofs.Words.{some_none, same_some}
 use Rattle.walk.specs.declared.frame.Frame.{Frame}
 use Rattle.walk.specs.State.{Shelf, Core, State, called, counted}
-use Rattle.walk.specs.Rules.{Call, begun, next}
+use Rattle.walk.specs.Rules.{Call, begun}
 use Rattle.walk.specs.Steps.{Open, Going, Now, Taken, Ended, risen, Visiting, visit, expand, again, rise, leave, end, Walk, coarse, entered, left}
 use Rattle.walk.specs.Steps as steps
 use Rattle.walk.specs.Laws.{Given, Next, NextBy, EveryWalkGoesOn, most_moves}
@@ -17,7 +17,6 @@ use Rattle.walk.proofs.Take.{New, Again, item}
 use Rattle.walk.proofs.Visit.{next_link, visiting_looking}
 use Rattle.walk.proofs.Settle.{walk_inv}
 use Rattle.walk.proofs.Moves.{moves_little, children_few}
-use Rattle.walk.proofs.Ledger.{ends}
 use Rattle.walk.proofs.Ready.{place, base_le, least_above, top_free, child_free}
 use Rattle.walk.proofs.Follow.{places, Expands, expands, follow}
 

@@ -6,7 +6,7 @@ use Rattle.tree.specs.Tree.{Tree, self, In, Fits, width}
 use Rattle.tree.proofs.Nodes.{in_parent, Through, in_inner, above_other}
 use Rattle.tree.proofs.Words.{some_none, same_some}
 use Rattle.walk.specs.declared.frame.Frame.{Frame}
-use Rattle.walk.specs.State.{Core, State, Changed, grown, counted}
+use Rattle.walk.specs.State.{Core, State, Changed, counted}
 use Rattle.walk.specs.Rules.{falls, unknown, Slot, within, past}
 use Rattle.walk.specs.Steps.{Open, Going, Now, coarse}
 use Rattle.walk.proofs.Lines.{suc_line, line_mono, line_lt, bucket_low, bucket_high, coarse_high, coarse_past, width_pos}

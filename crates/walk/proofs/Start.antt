@@ -6,9 +6,9 @@ use Rattle.tree.specs.Tree.{Tree, Below, In, Inner, Fits, width}
 use Rattle.network.proofs.Leasts.{least_self}
 use Rattle.tree.proofs.Nodes.{station_only, root_top, holder}
 use Rattle.tree.proofs.Words.{some_none, same_some}
-use Rattle.walk.specs.State.{Core, State, Changed, called, grown}
+use Rattle.walk.specs.State.{Core, State, Changed, called}
 use Rattle.walk.specs.Rules.{Call, Links}
-use Rattle.walk.specs.Steps.{Open, Blank, Begin, alone, root, entered}
+use Rattle.walk.specs.Steps.{Open, Blank, Begin, alone, root}
 use Rattle.walk.proofs.Lines.{bucket_low}
 use Rattle.walk.proofs.Invariant.{On, Expanded, Found, Stack, empty, bottom, loose, Facts, Looked, Inv}
 use Rattle.walk.proofs.Keep.{Change, change, cons_nil}

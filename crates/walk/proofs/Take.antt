@@ -1,6 +1,6 @@
 -- What the bucket of the counter hands over. A station that it hands over is at its least delay.
 use Rattle.std.proofs.Common.{◌≡◌, ℕ, ◌+◌, ◌*◌, ◌/◌, ◌^◌, ◌<◌, ◌≤◌, ◌⊎◌, List, ◌∷◌, ◌++◌, Some, None, Option, sym, refl, ap, ◌∙◌, inl, inr, add-mul, arith, pow_pos}
-use Rattle.network.specs.Network.{Network, Route, here, step, Hop, Attained, Least, Each, and, Small, sum, delay}
+use Rattle.network.specs.Network.{Network, Route, here, step, Hop, Attained, Least, Each, and, Small, sum}
 use Rattle.tree.specs.Tree.{Tree, Below, self, In, Inner, Fits, width}
 use Rattle.network.proofs.Routes.{flip, join, join_sum}
 use Rattle.tree.proofs.Nodes.{station_only, separate}

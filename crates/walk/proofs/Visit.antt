@@ -6,7 +6,7 @@ use Rattle.tree.specs.Tree.{Tree, Below, self, up, In, Fits}
 use Rattle.tree.proofs.Nodes.{station_only}
 use Rattle.tree.proofs.Words.{some_none, same_some}
 use Rattle.walk.specs.declared.frame.Frame.{Frame}
-use Rattle.walk.specs.State.{Shelf, Core, State, Changed, called, grown}
+use Rattle.walk.specs.State.{Shelf, Core, State, Changed, called}
 use Rattle.walk.specs.Rules.{unknown, Call, Link, next}
 use Rattle.walk.specs.Steps.{Open, Going, Taken, Visiting}
 use Rattle.walk.proofs.Invariant.{On, Expanded, Found, Known, Early, Standing, loose, fresh, visiting, through, waiting, Facts, LookedTo, Looked, Inv}

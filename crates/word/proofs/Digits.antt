@@ -1,5 +1,5 @@
 -- What the kind of a byte tells.
-use Rattle.std.proofs.Common.{◌≡◌, ℕ, ◌+◌, ◌<◌, refl, arith}
+use Rattle.std.proofs.Common.{◌≡◌, ℕ, refl, arith}
 use Rattle.word.specs.Bytes.{IsKind, IsDigit}
 use Rattle.word.specs.declared.byte.Kind.{Kind}
 use Rattle.word.specs.declared.byte.Kind.TheVariants.{Separator, LineFeed, Digit, Point, Other}

@@ -1,6 +1,6 @@
 -- Digits read from the left: one more digit, and what it does to the number so far.
-use Rattle.std.proofs.Common.{◌≡◌, ℕ, zero, suc, ◌+◌, ◌-◌, ◌*◌, ◌^◌, ◌<◌, ◌≤◌, min, List, [], ◌∷◌, ◌++◌, length, get_or, take, drop, sym, refl, ap, ◌∙◌, mul_assoc, pow-suc, add-one, arith, length-append}
-use Rattle.std.proofs.lemmas.List.{take_more, take_all, take_rest}
+use Rattle.std.proofs.Common.{◌≡◌, ℕ, zero, suc, ◌+◌, ◌-◌, ◌*◌, ◌^◌, ◌<◌, min, List, [], ◌∷◌, ◌++◌, length, get_or, take, drop, sym, refl, ap, ◌∙◌, mul_assoc, pow-suc, arith, length-append}
+use Rattle.std.proofs.lemmas.List.{take_more, take_rest}
 use Rattle.word.specs.Bytes.{IsDigit}
 use Rattle.word.specs.Numbers.{Digits, Numeral, value}
 

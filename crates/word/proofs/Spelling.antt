@@ -3,8 +3,7 @@ use Rattle.std.proofs.Common.{◌≡◌, ℕ, suc, ◌+◌, ◌-◌, ◌*◌, �
 use native.Mathlib.Nat.{pow-le-pow_right}
 use native.Mathlib.Decide.{dec_lt, ℕ_discrete}
 use lib.Arith.{digits_lt, digits_div, digits_mod}
-use Rattle.word.specs.Bytes.{IsDigit}
-use Rattle.word.specs.Numbers.{Digits, Numeral, ReadsNumber, value}
+use Rattle.word.specs.Numbers.{Digits, Numeral, value}
 
 -- digits write less than the power of ten that comes after them
 value_lt : (bs : List ℕ) → Digits bs → value bs < 10 ^ length bs

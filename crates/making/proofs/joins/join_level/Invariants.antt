@@ -1,4 +1,4 @@
-use Rattle.std.proofs.Common.{◌≡◌, length}
+use Rattle.std.proofs.Common.{length}
 use Rattle.tree.proofs.Ranks.{Past}
 use Rattle.making.specs.Joins.{network_of, Grown}
 use Rattle.making.proofs.joins.join_level.Given as goal

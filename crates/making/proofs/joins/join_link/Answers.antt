@@ -1,7 +1,5 @@
-use Rattle.std.proofs.Common.{◌≡◌, ℕ, suc, ◌+◌, true, false, length, get_or, sym, ◌∙◌, subst, arith, rules}
+use Rattle.std.proofs.Common.{◌≡◌, ℕ, suc, ◌+◌, subst, arith}
 use Rattle.network.specs.Levels.{IsLevel}
-use Rattle.network.specs.Network.{Network, row, delay}
-use Rattle.making.specs.Joins.{network_of}
 use Rattle.making.proofs.Looking.{from_station, to_station, read_low, sums_fit, look_withdrawn, look_other, look_inside, look_joins, look_joins_back}
 use Rattle.making.proofs.joins.join_link.Goals as goal
 use Rattle.making.proofs.joins.join_link.Goals.{then-not-served-via-then-not-served, then-not-served-via-else-not-served+then-level-done}

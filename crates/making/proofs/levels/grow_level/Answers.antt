@@ -1,4 +1,4 @@
-use Rattle.std.proofs.Common.{◌≡◌, ℕ, suc, length, sym, ap, ◌∙◌, subst, arith}
+use Rattle.std.proofs.Common.{suc, length, sym, ap, ◌∙◌}
 use Rattle.tree.proofs.Making.{Labels, labels}
 use Rattle.making.specs.Joins.{network_of}
 use Rattle.making.specs.Labels.{label_of}

@@ -1,4 +1,4 @@
-use Rattle.std.proofs.Common.{◌≡◌, ℕ, suc, ◌+◌, length, sym, refl, ◌∙◌, subst, arith}
+use Rattle.std.proofs.Common.{◌≡◌, suc, ◌+◌, length, sym, refl, ◌∙◌, subst, arith}
 use Rattle.network.specs.Network.{Small}
 use Rattle.making.specs.Joins.{network_of, Fit, Grown}
 use Rattle.making.specs.Numbers.{Numbered, Few}

@@ -1,4 +1,4 @@
-use Rattle.std.proofs.Common.{◌+◌, refl, ◌∙◌, arith, length-set}
+use Rattle.std.proofs.Common.{◌+◌, refl, arith, length-set}
 use Rattle.making.proofs.Numbering.{none_here, one_more}
 use Rattle.making.proofs.numbers.number_group.Goals as goal
 use Rattle.making.proofs.numbers.number_group.Goals.{then-not-forms-via-then-not-forms, then-not-forms-via-else-not-forms+then-next-level}

@@ -1,4 +1,4 @@
-use Rattle.std.proofs.Common.{◌≡◌, ℕ, suc, ◌≤◌, length}
+use Rattle.std.proofs.Common.{◌≡◌, suc, ◌≤◌, length}
 use Rattle.network.specs.Network.{Network}
 use Rattle.tree.proofs.Making.{Labels}
 use Rattle.making.specs.Labels.{label_of}

@@ -1,4 +1,4 @@
-use Rattle.std.proofs.Common.{arith, rules}
+use Rattle.std.proofs.Common.{arith}
 use Rattle.making.proofs.Merging.{merge_hit, merge_miss, merge_all}
 use Rattle.making.proofs.relabel.relabel.Goals as goal
 use Rattle.making.proofs.relabel.relabel.Goals.{then-label-u, else-label-u}

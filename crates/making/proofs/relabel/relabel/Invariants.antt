@@ -1,6 +1,3 @@
-use Rattle.std.proofs.Common.{◌≡◌, ℕ, ◌<◌, ◌≤◌, length}
-use Rattle.tree.proofs.Marks.{Merged}
-use Rattle.making.specs.Labels.{label_of}
 use Rattle.making.proofs.Merging.{MergedBelow}
 use Rattle.making.proofs.relabel.relabel.Given as goal
 

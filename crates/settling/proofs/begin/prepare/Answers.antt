@@ -1,4 +1,4 @@
-use Rattle.std.proofs.Common.{◌≡◌, ◌<◌, sym, arith}
+use Rattle.std.proofs.Common.{◌<◌, arith}
 use Rattle.map.specs.Means.{tree_of}
 use Rattle.settling.proofs.Places.{granted}
 use Rattle.settling.proofs.Begins.{blank, may_lower}

@@ -1,4 +1,4 @@
-use Rattle.std.proofs.Common.{◌≡◌, sym, refl}
+use Rattle.std.proofs.Common.{sym, refl}
 use Rattle.settling.specs.Turns.{again, first}
 use Rattle.settling.proofs.enter.enter.Goals as goal
 

@@ -1,4 +1,4 @@
-use Rattle.std.proofs.Common.{◌≡◌, ◌+◌, ◌<◌, sym, refl, ap, ◌∙◌, arith, rules}
+use Rattle.std.proofs.Common.{◌≡◌, ◌+◌, ◌<◌, sym, refl, ap, arith, rules}
 use Rattle.network.specs.Network.{delay}
 use Rattle.walk.specs.Rules.{skip}
 use Rattle.keeper.specs.Keeps.{Keeps}

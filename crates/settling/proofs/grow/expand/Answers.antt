@@ -1,4 +1,4 @@
-use Rattle.std.proofs.Common.{◌≡◌, ℕ, ◌/◌, ◌^◌, ◌<◌, length, vec_items, sym, ap, ◌∙◌, subst, arith}
+use Rattle.std.proofs.Common.{ℕ, ◌/◌, ◌^◌, ◌<◌, length, vec_items, ap, subst, arith}
 use Rattle.walk.proofs.Handover.{child_ready}
 use Rattle.map.specs.Means.{tree_of}
 use Rattle.settling.specs.Means.{Opened}

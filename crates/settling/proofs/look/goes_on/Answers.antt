@@ -1,4 +1,4 @@
-use Rattle.std.proofs.Common.{◌≡◌, ◌/◌, ◌^◌, sym, refl, ap, ◌∙◌, arith}
+use Rattle.std.proofs.Common.{sym, refl}
 use Rattle.walk.specs.Steps.{through}
 use Rattle.map.specs.Means.{tree_of}
 use Rattle.settling.proofs.Keepers.{lowest_of, nothing_of}

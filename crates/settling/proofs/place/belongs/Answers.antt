@@ -1,9 +1,6 @@
-use Rattle.std.proofs.Common.{◌≡◌, sym, refl}
-use Rattle.walk.specs.Rules.{unknown}
 use Rattle.map.specs.Means.{tree_of}
 use Rattle.settling.specs.Means.{base_of}
 use Rattle.settling.proofs.Places.{start_below, belongs_at}
-use Rattle.settling.proofs.Keepers.{nothing_of}
 use Rattle.settling.proofs.place.belongs.Goals as goal
 
 pub overflow_sub-k : goal.overflow_sub-k

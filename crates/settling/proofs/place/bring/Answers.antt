@@ -1,4 +1,4 @@
-use Rattle.std.proofs.Common.{◌≡◌, ◌<◌, sym, refl, ◌∙◌, arith}
+use Rattle.std.proofs.Common.{◌<◌, sym, ◌∙◌, arith}
 use Rattle.tree.specs.Tree.{buckets_in_all}
 use Rattle.map.specs.Means.{tree_of}
 use Rattle.settling.specs.Means.{base_of, sofar_of}

@@ -1,4 +1,4 @@
-use Rattle.std.proofs.Common.{◌≡◌, ℕ, ◌<◌, ◌≤◌, true, false, length, Some, None, vec_items, vec_len, sym, refl, ap, ◌∙◌, arith, rules}
+use Rattle.std.proofs.Common.{◌≡◌, ◌<◌, ◌≤◌, true, false, length, vec_items, refl, ap, arith, rules}
 use Rattle.shelf.specs.Holds.{Holds}
 use Rattle.map.specs.Means.{tree_of}
 use Rattle.settling.specs.Means.{network_of, core_of}

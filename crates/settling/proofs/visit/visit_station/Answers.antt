@@ -1,4 +1,4 @@
-use Rattle.std.proofs.Common.{◌≡◌, ◌<◌, ◌≤◌, length, Some, None, vec_items, vec_len, sym, refl, ap, subst, arith}
+use Rattle.std.proofs.Common.{◌<◌, length, None, vec_items, sym, refl, ap, subst, arith}
 use Rattle.walk.specs.State.{Core}
 use Rattle.walk.specs.Rules.{Links}
 use Rattle.walk.specs.Able.{Safe}

@@ -1,4 +1,4 @@
-use Rattle.std.proofs.Common.{◌≡◌, ℕ, ◌+◌, ◌<◌, List, length, sym, refl, subst, arith}
+use Rattle.std.proofs.Common.{ℕ, ◌+◌, ◌<◌, List, length, sym, refl, subst}
 use Rattle.text.specs.Split.{LineAt}
 use Rattle.text.specs.Lines.{LineIs}
 use Rattle.text.proofs.Pieces.{line_none, line_listed, line_is, line_next}

@@ -1,5 +1,4 @@
 use Rattle.std.proofs.Common.{ℕ, List, refl, ◌∙◌, subst, arith}
-use Rattle.text.specs.Split.{words}
 use Rattle.text.specs.Columns.{NoNewName, word}
 use Rattle.text.proofs.Naming.{seen_more, name_fault}
 use Rattle.text.proofs.names.read_names.Goals as goal

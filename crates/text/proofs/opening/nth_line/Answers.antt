@@ -1,6 +1,6 @@
-use Rattle.std.proofs.Common.{◌≡◌, ℕ, ◌+◌, ◌<◌, length, sym, subst, arith}
+use Rattle.std.proofs.Common.{◌≡◌, ℕ, ◌+◌, sym, subst, arith}
 use Rattle.text.specs.Split.{LineAt}
-use Rattle.text.proofs.Pieces.{line_first, line_some, line_next, line_is}
+use Rattle.text.proofs.Pieces.{line_some, line_next, line_is}
 use Rattle.text.proofs.opening.nth_line.Goals as goal
 
 pub loop-preserved : goal.loop-preserved

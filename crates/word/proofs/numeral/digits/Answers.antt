@@ -1,7 +1,6 @@
-use Rattle.std.proofs.Common.{◌≡◌, ℕ, ◌+◌, ◌-◌, ◌*◌, ◌^◌, ◌<◌, min, List, ◌∷◌, length, get_or, take, ap, ◌∙◌, arith}
+use Rattle.std.proofs.Common.{◌≡◌, ℕ, ◌+◌, ◌-◌, ◌*◌, ◌^◌, min, get_or, ap, ◌∙◌, arith}
 use Rattle.std.proofs.lemmas.List.{take_all}
 use Rattle.word.specs.Bytes.{IsDigit}
-use Rattle.word.specs.Numbers.{Digits, value}
 use Rattle.word.proofs.Digits.{no_digit}
 use Rattle.word.proofs.Numerals.{digit_at, digits_more}
 use Rattle.word.proofs.numeral.digits.Goals as goal

@@ -1,4 +1,4 @@
-use Rattle.std.proofs.Common.{◌≡◌, ℕ, ◌+◌, ◌^◌, min, ◌∷◌, take}
+use Rattle.std.proofs.Common.{◌≡◌, ◌+◌, ◌^◌, min, ◌∷◌, take}
 use Rattle.word.specs.Numbers.{Digits, value}
 use Rattle.word.proofs.numeral.digits.Given as goal
 

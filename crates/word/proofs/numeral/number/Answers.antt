@@ -1,5 +1,4 @@
-use Rattle.std.proofs.Common.{◌≡◌, ℕ, ◌+◌, ◌<◌, ◌≤◌, length, get_or, ◌∙◌, arith, rules}
-use Rattle.word.specs.Numbers.{value}
+use Rattle.std.proofs.Common.{◌≡◌, ◌<◌, length, get_or, arith, rules}
 use Rattle.word.proofs.Numerals.{empty, nought, leads, leads_value, rest_digits, not_empty}
 use Rattle.word.proofs.numeral.number.Goals as goal
 

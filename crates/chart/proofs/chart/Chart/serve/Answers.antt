@@ -1,4 +1,4 @@
-use Rattle.std.proofs.Common.{◌≡◌, ◌≤◌, Bool, List, length, set, vec_items, sym, refl, ap, arith, rules}
+use Rattle.std.proofs.Common.{◌≤◌, Bool, List, length, sym, refl, ap, rules}
 use Rattle.std.proofs.lemmas.List.{set_past}
 use Rattle.network.specs.Network.{Network}
 use Rattle.network.specs.Schemes.{network_of}
