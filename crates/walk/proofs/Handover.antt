@@ -26,7 +26,7 @@ use Rattle.walk.proofs.Settle.{walk_inv}
 use Rattle.walk.proofs.Moves.{moves_little, children_few, alone_few}
 use Rattle.walk.proofs.Ready.{base_le, start_le, least_above, top_free, child_free, station_shut, front_of}
 
--- Building a walk. (Its constructors are begin and then, those of Step, and Visit.next-link for one link more.)
+-- Building a walk. (Its constructors are begin and then, those of Step, and Visit.next_link for one link more.)
 
 -- moving an item that stands nowhere is placing it: so one function may serve rules 2, 4 and 6
 pub placed_moved : {t : Tree} {c : ℕ} {b : Option ℕ} {h h' : Shelf} → h.bucket c ≡ None → Moved t c b h h' → Placed t c b h h'
@@ -44,7 +44,7 @@ pub puts_then : {t : Tree} {so_far base : ℕ → Option ℕ} {cs ds : List ℕ}
 puts_then done q = q
 puts_then (put b bel p r) q = put b bel p (puts_then r q)
 
--- each child adds at most one to the count, and moves itself alone (Keep.puts-off)
+-- each child adds at most one to the count, and moves itself alone (Keep.puts_off)
 pub puts_few : {t : Tree} {so_far base : ℕ → Option ℕ} {cs : List ℕ} {h h₁ : Shelf} → Puts t so_far base cs h h₁ → h₁.puts ≤ h.puts + length cs
 puts_few done = omega arith
 puts_few (put b bel p r) = omega (arith, puts_few r, add_few p.counted)

@@ -83,14 +83,14 @@ pub record NextBy (g : Network) (t : Tree) (s : State) (c : ℕ) : Type 0 where
   pub item : item_of next.step ≡ Some c
 
 -- a walk is at its end or has a next step, and whatever take hands over, it goes on with that: no put in between is refused
-pub record Goes_on (g : Network) (t : Tree) (s : State) : Type 0 where
+pub record GoesOn (g : Network) (t : Tree) (s : State) : Type 0 where
   pub here : (s.frames ≡ []) ⊎ Next g t s
   pub taking : (f : Frame) (fs : List Frame) (c : ℕ) (h : Shelf) → s.frames ≡ f ∷ fs
       → Going t s.core f → Taken t s.core f.node c h → NextBy g t s c
 
 abbrev pub EveryWalkGoesOn : Type 0
 EveryWalkGoesOn = (g : Network) (t : Tree) (source k : ℕ) (s : State) → Given g t source → most_moves g t < 65535
-    → Walk g t source k s → Goes_on g t s
+    → Walk g t source k s → GoesOn g t s
 
 pub record RunsTo (g : Network) (t : Tree) (source : ℕ) : Type 0 where
   pub state : State
