@@ -12,5 +12,5 @@ pub struct Chart {
     pub scheme: Scheme,
     pub map: Map,
     pub stands: bool,
-    ghost right: { (stands ≡ true → ∥ Components (network_of scheme) (tree_of map) ∥₁) },
+    ghost right: { stands ≡ true → ∥ Components (network_of scheme) (tree_of map) ∥₁ },
 }

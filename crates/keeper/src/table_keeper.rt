@@ -1,7 +1,7 @@
 ghost use Rattle.std.specs.Prelude.{◌≡◌, IfOk};
 ghost use Rattle.keeper.specs.Keeps.{all_none};
 ghost use Rattle.keeper.specs.Means.{table_keeps};
-ghost use Rattle.std.proofs.Common.{rules, arith};
+ghost use Rattle.std.proofs.Common.{sym};
 
 use super::Keeper;
 use super::lesser::lesser;
@@ -21,7 +21,7 @@ impl Table {
 impl Keeper for Table {
     ghost meaning = { table_keeps };
 
-    ghost sized = { first_of (Prim.search rules, Prim.grind (arith, Self.row.coded.inj)) };
+    ghost sized = { λ s. sym s.delays.ok.0 };
 
     fn places(&self) -> u32 {
         self.delays.len() as u32

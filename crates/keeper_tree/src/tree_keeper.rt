@@ -2,7 +2,8 @@ ghost use Rattle.std.specs.Prelude.{◌≡◌, ◌+◌, ◌<◌, drop, replicate
 ghost use Rattle.keeper.specs.Keeps.{all_none, delay_at, noted};
 ghost use Rattle.keeper_tree.specs.Means.{tree_keeps};
 ghost use Rattle.keeper_tree.specs.Trees.{Over, OverBut, under};
-ghost use Rattle.keeper_tree.specs.Nodes.{places_long};
+ghost use Rattle.std.proofs.Common.{◌-◌, sym, ap, ◌∙◌, length-drop};
+ghost use Rattle.std.proofs.Math.Nat.{add-sub_cancel};
 
 use super::tree::Tree;
 use keeper::Keeper;
@@ -69,7 +70,7 @@ impl Tree {
 impl Keeper for Tree {
     ghost meaning = { tree_keeps };
 
-    ghost sized = { λ s. places_long s };
+    ghost sized = { λ s. length-drop s.places s.nodes.items ∙ ap (λ n. n - s.places) (sym s.nodes.ok.0 ∙ s.sized) ∙ add-sub_cancel s.places s.places };
 
     fn places(&self) -> u32 {
         self.places

@@ -1,5 +1,5 @@
 -- The numbers of the groups, while they are given level by level.
-use Rattle.std.specs.Prelude.{◌≡◌, ℕ, suc, ◌<◌, ◌≤◌, ◌⊎◌, List, slice_index, slice_index_or}
+use Rattle.std.specs.Prelude.{◌≡◌, ℕ, suc, ◌<◌, ◌≤◌, ◌⊎◌, List, slice_index}
 use Rattle.network.specs.Network.{Network}
 use Rattle.tree.specs.Components.{Forms}
 use Rattle.tree.specs.Joining.{Earlier}
@@ -13,8 +13,8 @@ pub record Placed (g : Network) (n : ℕ) (level lowest : List ℕ) (j r : ℕ) 
   pub node : ℕ
   pub above : g.stations ≤ node
   pub below : node < n
-  pub is_level : slice_index_or level node 0 ≡ j
-  pub is_lowest : slice_index_or lowest node 0 ≡ r
+  pub is_level : slice_index level node ≡ j
+  pub is_lowest : slice_index lowest node ≡ r
 
 -- the nodes below n, after the stations, are the groups passed so far, by rising level, then by rising lowest station
 pub record Numbered (g : Network) (i s n : ℕ) (level lowest : List ℕ) : Type 0 where

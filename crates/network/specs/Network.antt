@@ -1,5 +1,5 @@
 -- A network of relay stations, the routes over its links in service, and the words that answers are said in.
-use Rattle.std.specs.Prelude.{◌≡◌, ℕ, ◌+◌, ◌^◌, ◌<◌, ◌≤◌, Bool, true, false, ◌⊎◌, List, [], ◌∷◌, length, get_or, slice_index_or}
+use Rattle.std.specs.Prelude.{◌≡◌, ℕ, ◌+◌, ◌^◌, ◌<◌, ◌≤◌, Bool, true, false, ◌⊎◌, List, [], ◌∷◌, length, slice_index_or}
 use Rattle.network.specs.declared.row.Row.{Row}
 use Rattle.network.specs.Rows.{Sound}
 
@@ -27,7 +27,7 @@ Proper g = (k : ℕ) → k < length g.rows → Sound g.stations (row g k)
 -- the link k is in service and leads from a to b: a link works either way
 pub record Hop (g : Network) (k a b : ℕ) : Type 0 where
   pub listed : k < length g.rows
-  pub up : get_or g.service k false ≡ true
+  pub up : slice_index_or g.service k false ≡ true
   pub ends : (((row g k).from ≡ a) × ((row g k).to ≡ b)) ⊎ (((row g k).from ≡ b) × ((row g k).to ≡ a))
 
 -- the links ks, all in service, lead from one station to another, each from where the one before it ended

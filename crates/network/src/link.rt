@@ -13,7 +13,7 @@ pub struct Link {
     from: u32,
     to: u32,
     ns: u32,
-    ghost apart: { (from ≢ to) },
+    ghost apart: { from ≢ to },
     ghost delayed: { 1 ≤ ns },
     ghost bounded: { ns ≤ 4294967295 },
 }

@@ -1,4 +1,4 @@
-ghost use Rattle.std.specs.Prelude.{◌≡◌, ℕ, ◌<◌, ◌≤◌, get_or, vec_len, slice_index_or};
+ghost use Rattle.std.specs.Prelude.{◌≡◌, ℕ, ◌<◌, ◌≤◌, vec_len, slice_index_or};
 ghost use Rattle.network.specs.Rows.{Sound};
 ghost use Rattle.network.specs.Network.{no_row};
 
@@ -15,6 +15,6 @@ pub struct Scheme {
     ghost most: { stations ≤ 512 },
     ghost few: { vec_len rows ≤ 2048 },
     ghost sound: { (k : ℕ) → k < vec_len rows → Sound stations (slice_index_or rows.items k no_row) },
-    ghost bounded: { (k : ℕ) → k < vec_len rows → (get_or rows.items k no_row).ns ≤ 4294967295 },
+    ghost bounded: { (k : ℕ) → k < vec_len rows → (slice_index_or rows.items k no_row).ns ≤ 4294967295 },
     ghost served: { vec_len service ≡ vec_len rows },
 }

@@ -1,7 +1,7 @@
 ghost use Rattle.std.specs.Prelude.{◌≡◌, IfOk};
 ghost use Rattle.shelf.specs.Holds.{all_nowhere};
 ghost use Rattle.shelf.specs.Means.{marks_hold};
-ghost use Rattle.std.proofs.Common.{rules, arith};
+ghost use Rattle.std.proofs.Common.{sym};
 
 use super::Shelf;
 use super::marks::Marks;
@@ -24,11 +24,11 @@ impl Marks {
 impl Shelf for Marks {
     ghost meaning = { marks_hold };
 
-    ghost sized = { first_of (Prim.search rules, Prim.grind (arith, Self.row.coded.inj)) };
+    ghost sized = { λ s. sym s.marks.ok.0 };
 
-    ghost inside = { first_of (Prim.search rules, Prim.grind (arith, Self.row.coded.inj)) };
+    ghost inside = { λ s. s.inside };
 
-    ghost counted = { first_of (Prim.search rules, Prim.grind (arith, Self.row.coded.inj)) };
+    ghost counted = { λ s. s.counted };
 
     fn items(&self) -> u32 {
         self.marks.len() as u32

@@ -1,7 +1,7 @@
 ghost use Rattle.std.specs.Prelude.{◌≡◌, ℕ, ◌+◌, ◌<◌, IfOk, vec_len, slice_index};
 ghost use Rattle.shelf.specs.Holds.{all_nowhere, bucket_at, lifted};
 ghost use Rattle.shelf_chains.specs.Means.{chains_hold};
-ghost use Rattle.std.proofs.Common.{rules, arith};
+ghost use Rattle.std.proofs.Common.{sym};
 
 use super::chains::Chains;
 use shelf::Shelf;
@@ -65,11 +65,11 @@ impl Chains {
 impl Shelf for Chains {
     ghost meaning = { chains_hold };
 
-    ghost sized = { first_of (Prim.search rules, Prim.grind (arith, Self.row.coded.inj)) };
+    ghost sized = { λ s. sym s.home.ok.0 };
 
-    ghost inside = { first_of (Prim.search rules, Prim.grind (arith, Self.row.coded.inj)) };
+    ghost inside = { λ s. s.inside };
 
-    ghost counted = { first_of (Prim.search rules, Prim.grind (arith, Self.row.coded.inj)) };
+    ghost counted = { λ s. s.counted };
 
     fn items(&self) -> u32 {
         self.home.len() as u32

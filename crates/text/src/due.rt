@@ -3,7 +3,7 @@ ghost use Rattle.text.specs.Split.{lines, words, LineAt};
 ghost use Rattle.text.specs.Tables.{width};
 ghost use Rattle.text.specs.Columns.{Ordered, NamesFault};
 ghost use Rattle.text.specs.Values.{ValuesRead, ValuesFault};
-ghost use Rattle.text.specs.Due.{line as LineOf, Stands, Empty, Moved, DueFault, DividerFault, Never, AtLine};
+ghost use Rattle.text.specs.Due.{line as line_of, Stands, Empty, Moved, DueFault, DividerFault, Never, AtLine};
 
 use super::line::{Cursor, Line, Role, next_line};
 use super::names::{Places, read_names};
@@ -15,7 +15,7 @@ use word::fault::{Cause, Fault, TableFault};
 fn due_line<'a>(text: &'a [u8], cursor: &mut Cursor, role: Role) -> Result<&'a [u8], Fault>
     requires short { length text.now ≤ 65536 }
     requires at { LineAt text.now cursor.old.line cursor.old.start }
-    ensures { MatchResult result (λ bytes. Stands text.now cursor.old.line × (bytes.now ≡ LineOf text.now cursor.old.line) × Moved text.now cursor.old cursor.new) (λ f. AtLine cursor.old.line f (DueFault text.now cursor.old.line Never)) }
+    ensures { MatchResult result (λ bytes. Stands text.now cursor.old.line × (bytes.now ≡ line_of text.now cursor.old.line) × Moved text.now cursor.old cursor.new) (λ f. AtLine cursor.old.line f (DueFault text.now cursor.old.line Never)) }
 {
     let last = cursor.line;
     match next_line(text, cursor, role) {
@@ -38,7 +38,7 @@ fn due_line<'a>(text: &'a [u8], cursor: &mut Cursor, role: Role) -> Result<&'a [
 pub(crate) fn names_line(text: &[u8], cursor: &mut Cursor, table: Table) -> Result<Places, Fault>
     requires short { length text.now ≤ 65536 }
     requires at { LineAt text.now cursor.old.line cursor.old.start }
-    ensures { MatchResult result (λ places. Stands text.now cursor.old.line × Ordered table (words (LineOf text.now cursor.old.line)) places × Moved text.now cursor.old cursor.new) (λ f. AtLine cursor.old.line f (DueFault text.now cursor.old.line (NamesFault table))) }
+    ensures { MatchResult result (λ places. Stands text.now cursor.old.line × Ordered table (words (line_of text.now cursor.old.line)) places × Moved text.now cursor.old cursor.new) (λ f. AtLine cursor.old.line f (DueFault text.now cursor.old.line (NamesFault table))) }
 {
     let bytes = due_line(text, cursor, Role::AsNames)?;
     read_names(bytes, cursor.line, table)
@@ -54,7 +54,7 @@ pub(crate) fn values_line(
     requires short { length text.now ≤ 65536 }
     requires at { LineAt text.now cursor.old.line cursor.old.start }
     requires few { columns ≤ 4 }
-    ensures { MatchResult result (λ v. Stands text.now cursor.old.line × ValuesRead columns state_at (words (LineOf text.now cursor.old.line)) v × Moved text.now cursor.old cursor.new) (λ f. AtLine cursor.old.line f (DueFault text.now cursor.old.line (ValuesFault columns state_at))) }
+    ensures { MatchResult result (λ v. Stands text.now cursor.old.line × ValuesRead columns state_at (words (line_of text.now cursor.old.line)) v × Moved text.now cursor.old cursor.new) (λ f. AtLine cursor.old.line f (DueFault text.now cursor.old.line (ValuesFault columns state_at))) }
 {
     let bytes = due_line(text, cursor, Role::AsValues)?;
     read_values(bytes, cursor.line, columns, state_at)

@@ -2,7 +2,7 @@ ghost use Rattle.std.specs.Prelude.{◌≡◌, ℕ, ◌+◌, ◌<◌, ◌≤◌,
 ghost use Rattle.network.specs.Refusals.{shown};
 ghost use Rattle.network.specs.Rows.{Why};
 ghost use Rattle.text.specs.Split.{lines, words};
-ghost use Rattle.text.specs.Due.{line as LineOf};
+ghost use Rattle.text.specs.Due.{line as line_of};
 ghost use Rattle.text.specs.Sheet.{no_link};
 ghost use Rattle.text.specs.Opening.{AtWord, WordAtFault, AllSound, RowRefused, FairNumber, BookRefused};
 
@@ -18,7 +18,7 @@ use word::fault::{BookFault, Cause, Fault};
 /// The line `i` of the text.
 fn nth_line<'a>(text: &'a [u8], i: usize) -> &'a [u8]
     requires { i < length (lines text.now) }
-    ensures { result.now ≡ LineOf text.now i }
+    ensures { result.now ≡ line_of text.now i }
 {
     let mut start = 0;
     for _ in 0..i {
@@ -32,7 +32,7 @@ fn nth_line<'a>(text: &'a [u8], i: usize) -> &'a [u8]
 fn fault_at_word(text: &[u8], i: usize, j: usize, cause: Cause) -> Fault
     requires short { length text.now ≤ 65536 }
     requires line { i < length (lines text.now) }
-    requires word { j < length (words (LineOf text.now i)) }
+    requires word { j < length (words (line_of text.now i)) }
     ensures cause { result.cause ≡ cause }
     ensures shown { AtWord text.now i j result }
 {
@@ -74,7 +74,7 @@ fn check_links(
     requires short { length text.now ≤ 65536 }
     requires listed { 4 + count ≤ length (lines text.now) }
     requires long { count ≤ length links.now }
-    requires words { (k j : ℕ) → k < count → j < 4 → slice_index places j < length (words (LineOf text.now (4 + k))) }
+    requires words { (k j : ℕ) → k < count → j < 4 → slice_index places j < length (words (line_of text.now (4 + k))) }
     ensures { MatchResult result (λ _. AllSound stations links.now count) (λ f. RowRefused text.now places stations links.now count f) }
 {
     for k in 0..count {
@@ -96,8 +96,8 @@ pub(crate) fn check_book(
     requires short { length text.now ≤ 65536 }
     requires listed { 4 + count ≤ length (lines text.now) }
     requires long { count ≤ length links.now }
-    requires head { slice_index_or heading.book_places 1 0 < length (words (LineOf text.now 1)) }
-    requires words { (k j : ℕ) → k < count → j < 4 → slice_index_or heading.link_places j 0 < length (words (LineOf text.now (4 + k))) }
+    requires head { slice_index heading.book_places 1 < length (words (line_of text.now 1)) }
+    requires words { (k j : ℕ) → k < count → j < 4 → slice_index heading.link_places j < length (words (line_of text.now (4 + k))) }
     ensures { MatchResult result (λ _. FairNumber heading.head.stations × AllSound heading.head.stations links.now count) (λ f. BookRefused text.now heading.book_places heading.link_places heading.head.stations links.now count f) }
 {
     let stations = heading.head.stations;

@@ -1,6 +1,6 @@
 ghost use Rattle.std.specs.Prelude.{◌≡◌, ℕ, ◌+◌, ◌<◌, ◌≤◌, true, false, [], length, MatchOption, MatchResult, slice_index};
 ghost use Rattle.text.specs.Split.{lines, words, LineAt};
-ghost use Rattle.text.specs.Due.{line as LineOf, Stands, AtLine, Moved};
+ghost use Rattle.text.specs.Due.{line as line_of, Stands, AtLine, Moved};
 ghost use Rattle.text.specs.Sheet.{Placed, SpelledLink, WrongRow, RowFault, RowsRead, RowsEnd};
 
 use super::line::{Cursor, Line, Role, next_line};
@@ -54,7 +54,7 @@ fn next_row(
     requires at { LineAt text.now cursor.old.line cursor.old.start }
     requires placed { Placed places }
     ensures { MatchOption result (length (lines text.now) ≤ cursor.old.line) (λ o. MatchResult o
-        (λ link. Stands text.now cursor.old.line × (full ≡ false) × SpelledLink places (words (LineOf text.now cursor.old.line)) link × Moved text.now cursor.old cursor.new)
+        (λ link. Stands text.now cursor.old.line × (full ≡ false) × SpelledLink places (words (line_of text.now cursor.old.line)) link × Moved text.now cursor.old cursor.new)
         (λ f. AtLine cursor.old.line f (RowFault text.now places (full ≡ true) cursor.old.line))) }
 {
     match next_line(text, cursor, Role::AsValues)? {

@@ -1,6 +1,6 @@
 use Rattle.std.proofs.Common.{◌+◌, drop, None, vec_items, sym, ◌∙◌, arith}
 use Rattle.std.proofs.lemmas.List.{get_or-drop, get_or_past}
-use Rattle.keeper_tree.specs.Nodes.{places_long, read_node}
+use Rattle.keeper_tree.proofs.Nodes.{places_long, read_node}
 use Rattle.keeper_tree.proofs.tree.Tree.delay_at.Goals as goal
 
 pub returns-then-place-self : goal.returns-then-place-self

@@ -4,7 +4,7 @@ use Rattle.keeper.proofs.Leasts.{span, all_taken, least_answers}
 use Rattle.keeper_tree.specs.Means.{tree_keeps}
 use Rattle.keeper_tree.specs.Trees.{under}
 use Rattle.keeper_tree.proofs.Climbs.{row, climb, shifted}
-use Rattle.keeper_tree.specs.Nodes.{places_long, read_node}
+use Rattle.keeper_tree.proofs.Nodes.{places_long, read_node}
 use Rattle.keeper_tree.proofs.tree_keeper.TreeKeeper.least.Goals as goal
 
 pub loop-low-preserved : goal.loop-low-preserved

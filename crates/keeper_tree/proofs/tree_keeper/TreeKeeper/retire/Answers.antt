@@ -1,6 +1,6 @@
 use Rattle.std.proofs.Common.{drop, None, vec_items, arith}
 use Rattle.std.proofs.lemmas.List.{set_past}
-use Rattle.keeper_tree.specs.Nodes.{places_long}
+use Rattle.keeper_tree.proofs.Nodes.{places_long}
 use Rattle.keeper_tree.proofs.tree_keeper.TreeKeeper.retire.Goals as goal
 
 pub returns-else-place-self : goal.returns-else-place-self
