@@ -3,11 +3,12 @@
 
 usage: python3 tools/respell.py [--list]        at the top of the repository, once, after the library's names were brought over
 
-A name of the repository's own is one that a file of crates/*/specs or crates/*/proofs defines: a definition, a lemma, a record or data type,
-a field, a constructor. `next-stage` and `leastIn` become `next_stage` and `least_in`, `Joint-level` becomes `JointLevel`, and a file
-`One-way.antt` becomes `OneWay.antt`. Names that the check makes from the source (what stands behind `goal.`, and the steps of a proof's `c`,
-`w` and `l`) keep their spelling, and so do code, strings and plain comments. With --list it prints the table and writes nothing. It stops where
-two names of one file would fall together.
+A name of the repository's own is one that a file of crates/*/specs or crates/*/proofs defines (a definition, a lemma, a record or data type,
+a field, a constructor), or a word with a dash that a file calls its own, as a variable. `next-stage` and `leastIn` become `next_stage` and `least_in`,
+`Joint-level` becomes `JointLevel`, and a file `One-way.antt` becomes `OneWay.antt`. Names that the check makes from the source (what stands
+behind `goal.`, and the steps of a proof's `c`, `w` and `l`) keep their spelling, and so do strings, and code, which has no such names. In comments,
+README.md and docs/ a name between backticks is turned, and in comments the name of a type too. With --list it prints the table and writes nothing.
+It stops where two names of one file would fall together, and does nothing where every name is spelled so already.
 """
 
 import collections
@@ -120,6 +121,8 @@ def main(argv):
     if "--list" in argv:
         for old, new in names.items():
             print(old, new)
+        return 0
+    if not names:
         return 0
     finder = pattern_of(names)
     files = [(p, "--") for p in antt("specs/**/*.antt") + antt("proofs/**/*.antt")] + [(p, "//") for p in antt("src/**/*.rt")]
