@@ -4,6 +4,7 @@ ghost use Rattle.chart.specs.Changes.{one_station, Served};
 
 use super::chart::Chart;
 use map::map::Map;
+use network::entry::Standing;
 use network::scheme::Scheme;
 use std::alloc::{AllocError, Global};
 
@@ -15,8 +16,7 @@ impl Chart {
         let map = Map::new(heap)?;
         let scheme = Scheme {
             stations: 1,
-            rows: Vec::new(heap),
-            service: Vec::new(heap),
+            links: Vec::new(heap),
         };
         Ok(Chart {
             scheme,
@@ -38,9 +38,10 @@ impl Chart {
     pub fn serve(&mut self, link: usize, up: bool)
         ensures { Served self.old link up self.new }
     {
-        if link < self.scheme.service.len() {
+        if link < self.scheme.links.len() {
             self.stands = false;
-            self.scheme.service[link] = up;
+            let standing = if up { Standing::In } else { Standing::Out };
+            self.scheme.stand(link, standing);
         }
     }
 }

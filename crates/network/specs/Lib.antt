@@ -1,3 +1,4 @@
+pub mod Entries
 pub mod Laws
 pub mod Levels
 pub mod Lists

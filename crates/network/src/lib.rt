@@ -3,9 +3,11 @@
 
 #![tactic(auto)]
 
+pub mod entry;
 pub mod laws;
 pub mod level;
 pub mod link;
 pub mod refusal;
 pub mod row;
 pub mod scheme;
+pub mod standings;

@@ -2,9 +2,11 @@ ghost use Rattle.std.specs.Prelude.{◌≡◌};
 ghost use Rattle.network.specs.Refusals.{shown};
 
 use super::row::Row;
+use std::error::Error;
+use std::fmt;
 
 /// Why a row is refused. Each case hands the row back.
-#[derive(Clone, Copy)]
+#[derive(Clone, Copy, Debug, PartialEq, Eq)]
 pub enum RowRefusal {
     /// an end is no station
     EndOutside(Row),
@@ -16,6 +18,7 @@ pub enum RowRefusal {
 
 impl RowRefusal {
     /// The number that stands for the refusal in the table of causes.
+    // Kept: the numbers are the table's own and are printed; a case that holds a row has no number to be cast to.
     pub fn number(self) -> u8
         ensures { result ≡ (shown self).number }
     {
@@ -31,9 +34,20 @@ impl RowRefusal {
         ensures { result ≡ (shown self).row }
     {
         match self {
-            RowRefusal::EndOutside(row) => row,
-            RowRefusal::EqualEnds(row) => row,
-            RowRefusal::NoDelay(row) => row,
+            RowRefusal::EndOutside(row) | RowRefusal::EqualEnds(row) | RowRefusal::NoDelay(row) =>
+                row,
         }
     }
 }
+
+impl fmt::Display for RowRefusal {
+    fn fmt<W: fmt::Write>(&self, f: &mut fmt::Formatter<W>) -> fmt::Result {
+        f.write_str(match self {
+            RowRefusal::EndOutside(_) => "an end is no station",
+            RowRefusal::EqualEnds(_) => "both ends are the same station",
+            RowRefusal::NoDelay(_) => "the delay is 0",
+        })
+    }
+}
+
+impl Error for RowRefusal {}
