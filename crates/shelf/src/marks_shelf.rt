@@ -43,49 +43,35 @@ impl Shelf for Marks {
     }
 
     fn bucket_of(&self, item: u32) -> Option<u32> {
-        let i = item as usize;
-        if i < self.marks.len() {
-            self.marks[i]
-        } else {
-            None
-        }
+        self.marks.get(item as usize).copied().flatten()
     }
 
     fn clear(&mut self) {
-        for item in 0..self.marks.len() {
-            self.marks[item] = None;
-        }
+        self.marks.fill(None);
         self.puts = 0;
     }
 
     fn put(&mut self, item: u32, bucket: u32) -> bool {
-        let i = item as usize;
-        if i >= self.marks.len() || bucket >= self.buckets || self.puts >= 65535 {
+        let Some(mark) = self.marks.get_mut(item as usize) else {
+            return false;
+        };
+        if mark.is_some() || bucket >= self.buckets || self.puts >= 65535 {
             return false;
         }
-        if self.marks[i].is_some() {
-            return false;
-        }
-        self.marks[i] = Some(bucket);
+        *mark = Some(bucket);
         self.puts += 1;
         true
     }
 
     fn lift(&mut self, item: u32) {
-        let i = item as usize;
-        if i < self.marks.len() {
-            self.marks[i] = None;
+        if let Some(mark) = self.marks.get_mut(item as usize) {
+            *mark = None;
         }
     }
 
     fn take(&mut self, bucket: u32) -> Option<u32> {
-        let n = self.marks.len();
-        for i in 0..n {
-            if self.marks[i] == Some(bucket) {
-                self.marks[i] = None;
-                return Some(i as u32);
-            }
-        }
-        None
+        let i = self.marks.iter().position(|mark| *mark == Some(bucket))?;
+        self.marks[i] = None;
+        Some(i as u32)
     }
 }
