@@ -1,75 +1,139 @@
--- What the calls on a shelf of chains read and leave, over the shelf itself: x is what was read, and j the node of a bucket.
-use Rattle.std.proofs.Common.{◌≡◌, ℕ, suc, ◌+◌, ◌<◌, ◌≤◌, get_or, set, Some, None, vec_items, vec_len, ap, ◌∙◌, arith, rules}
+-- What the calls on a shelf of chains read and leave, over the shelf itself: e is the node that was read.
+use Rattle.std.proofs.Common.{◌≡◌, ℕ, suc, ◌+◌, ◌<◌, ◌≤◌, List, length, map, get_or, set, Some, None, vec_items, vec_len, sym, refl, ap, ◌∙◌, arith, rules, ◌≢◌, Option}
+use Rattle.std.specs.List.{range_with_len}
+use Rattle.std.proofs.lemmas.List.FromFn.{length-map-range_with_len, get_or-map-range_with_len}
 use native.Mathlib.Bridge.{le_prop}
 use mathlib.Core.HLevel.{⊥_prop}
 use mathlib.Core.Logic.{∥∥₁_elim, ∥∥₁_map}
-use Rattle.std.proofs.lemmas.List.{get_or_read}
-use Rattle.shelf.specs.Holds.{Bare, bucket_at}
+use Rattle.std.proofs.lemmas.List.{map-set, get_or-map, length-map}
+use Rattle.std.proofs.Math.Seq.{map-set_same}
+use Rattle.shelf.specs.Holds.{Bare, all_nowhere, bucket_at, cleared, lifted, placed}
+use Rattle.shelf.specs.Means.{marks_hold}
+use Rattle.shelf.specs.declared.marks.Marks.{Marks}
 use Rattle.shelf_chains.specs.Means.{chains_hold}
-use Rattle.shelf_chains.specs.Rings.{Ringed, to}
+use Rattle.shelf_chains.specs.Rings.{Ringed, lone, nexts, prevs, to}
 use Rattle.shelf_chains.specs.declared.chains.Chains.{Chains}
-use Rattle.shelf_chains.proofs.Linking.{Sizes, before_low, after_low, first_low, ringed_unlink, ringed_link, ring_bare, ring_first, settled}
-use Rattle.shelf.proofs.Seats.{listed}
+use Rattle.shelf_chains.specs.declared.chains.Neighbours.{Neighbours}
+use Rattle.shelf_chains.proofs.Linking.{Sizes, before_low, after_low, first_low, ringed_unlink, ringed_link, ring_bare, ring_first, ringed_alone, settled}
+use Rattle.shelf.proofs.Seats.{all_none, listed, none_blank}
+
+-- a write that keeps a node's next one, or its previous one
+next_kept : (ring : List Neighbours) (i x : ℕ) (a : Neighbours) → a ≡ get_or ring i a → nexts (set ring i (record { next = a.next; prev = x })) ≡ nexts ring
+next_kept ring i x a e = map-set_same (λ (k : Neighbours). k.next) ring i (record { next = a.next; prev = x }) a (ap (λ (k : Neighbours). k.next) e)
+
+prev_kept : (ring : List Neighbours) (i x : ℕ) (a : Neighbours) → a ≡ get_or ring i a → prevs (set ring i (record { next = x; prev = a.prev })) ≡ prevs ring
+prev_kept ring i x a e = map-set_same (λ (k : Neighbours). k.prev) ring i (record { next = x; prev = a.prev }) a (ap (λ (k : Neighbours). k.prev) e)
+
+-- the list after p got q as its next node, and q got r as its previous one: a and b were read there
+abbrev joined : List Neighbours → (p q r s : ℕ) → Neighbours → Neighbours → List Neighbours
+joined ring p q r s a b = set (set ring p (record { next = q; prev = a.prev })) r (record { next = b.next; prev = s })
+
+module _ (ring : List Neighbours) (p q r s : ℕ) (a b : Neighbours) (ae : a ≡ get_or ring p a)
+    (be : b ≡ get_or (set ring p (record { next = q; prev = a.prev })) r b) where
+  nexts_joined : nexts (joined ring p q r s a b) ≡ set (nexts ring) p q
+  nexts_joined =
+      next_kept (set ring p (record { next = q; prev = a.prev })) r s b be
+      ∙ map-set (λ (k : Neighbours). k.next) ring p (record { next = q; prev = a.prev })
+
+  prevs_joined : prevs (joined ring p q r s a b) ≡ set (prevs ring) r s
+  prevs_joined =
+      map-set (λ (k : Neighbours). k.prev) (set ring p (record { next = q; prev = a.prev })) r (record { next = b.next; prev = s })
+      ∙ ap (λ (l : List ℕ). set l r s) (prev_kept ring p q a ae)
+
+-- an item that is not nowhere is somewhere
+somewhere : (o : Option ℕ) → o ≢ None → (b : ℕ) × (o ≡ Some b)
+somewhere None h = absurd (h refl)
+somewhere (Some b) h = (b, refl)
 
 module _ (s : Chains) where
-  sizes : Sizes (vec_len s.home) s.buckets (vec_items s.home) (vec_items s.next) (vec_items s.prev)
-  sizes = record { homes = search rules; nexts = search rules; prevs = search rules }
+  sizes : Sizes (chains_hold s) (nexts (vec_items s.ring)) (prevs (vec_items s.ring))
+  sizes = record { sized = search rules; nexts = simp length-map (search rules); prevs = simp length-map (search rules) }
 
-  pub item_low : (i b : ℕ) → bucket_at (chains_hold s) i ≡ Some b → i < vec_len s.home
-  item_low i b e = let l = listed (vec_items s.home) i b e in omega (arith, sizes.homes)
+  -- what is read of a node
+  next_read : (k : ℕ) (e : Neighbours) → k < vec_len s.ring → e ≡ get_or (vec_items s.ring) k e → to (nexts (vec_items s.ring)) k ≡ e.next
+  next_read k e lt is =
+      get_or-map (λ (n : Neighbours). n.next) (vec_items s.ring) k e 0 (search rules) ∙ ap (λ (n : Neighbours). n.next) (sym is)
 
-  pub node_low : (i b : ℕ) → bucket_at (chains_hold s) i ≡ Some b → i < vec_len s.home + s.buckets
-  node_low i b e = let l = item_low i b e in omega arith
+  prev_read : (k : ℕ) (e : Neighbours) → k < vec_len s.ring → e ≡ get_or (vec_items s.ring) k e → to (prevs (vec_items s.ring)) k ≡ e.prev
+  prev_read k e lt is =
+      get_or-map (λ (n : Neighbours). n.prev) (vec_items s.ring) k e 0 (search rules) ∙ ap (λ (n : Neighbours). n.prev) (sym is)
 
-  read_prev : (i b x : ℕ) → bucket_at (chains_hold s) i ≡ Some b → x ≡ get_or (vec_items s.prev) i x → x ≡ to (vec_items s.prev) i
-  read_prev i b x e h = get_or_read (vec_items s.prev) i x (let l = node_low i b e in omega (arith, sizes.prevs)) h 0
+  module _ (i : ℕ) (e : Neighbours) (in_ring : bucket_at (chains_hold s) i ≢ None) (is : e ≡ get_or (vec_items s.ring) i e) where
+    home : (b : ℕ) × (bucket_at (chains_hold s) i ≡ Some b)
+    home = somewhere (bucket_at (chains_hold s) i) in_ring
 
-  read_next : (i b x : ℕ) → bucket_at (chains_hold s) i ≡ Some b → x ≡ get_or (vec_items s.next) i x → x ≡ to (vec_items s.next) i
-  read_next i b x e h = get_or_read (vec_items s.next) i x (let l = node_low i b e in omega (arith, sizes.nexts)) h 0
+    node : i < vec_len s.ring
+    node = let l = listed (chains_hold s).at i home.0 home.1 in omega (arith, sizes.sized, s.nodes)
 
-  read_first : (b j x : ℕ) → b < s.buckets → j ≡ vec_len s.home + b → x ≡ get_or (vec_items s.next) j x → x ≡ to (vec_items s.next) (vec_len s.home + b)
-  read_first b j x lt e h = get_or_read (vec_items s.next) j x (omega (arith, sizes.nexts)) h 0 ∙ ap (to (vec_items s.next)) e
+    pub next_low : e.next < vec_len s.ring
+    next_low = ∥∥₁_elim s.ringed (le_prop {n = suc e.next}) (λ r.
+        let l = after_low (chains_hold s) (nexts (vec_items s.ring)) (prevs (vec_items s.ring)) sizes r i home.0 home.1 in
+        let x = next_read i e node is in
+        omega (arith, s.nodes))
 
-  pub before_within : (i b x : ℕ) → bucket_at (chains_hold s) i ≡ Some b → x ≡ get_or (vec_items s.prev) i x → x < vec_len s.next
-  before_within i b x e h = ∥∥₁_elim s.ringed (le_prop {n = suc x}) (λ r.
-      let is = read_prev i b x e h in
-      let l = before_low (vec_len s.home) s.buckets (vec_items s.home) (vec_items s.next) (vec_items s.prev) sizes r i b e in
-      omega (arith, s.nexts))
+    pub prev_low : e.prev < vec_len s.ring
+    prev_low = ∥∥₁_elim s.ringed (le_prop {n = suc e.prev}) (λ r.
+        let l = before_low (chains_hold s) (nexts (vec_items s.ring)) (prevs (vec_items s.ring)) sizes r i home.0 home.1 in
+        let x = prev_read i e node is in
+        omega (arith, s.nodes))
 
-  pub after_within : (i b x : ℕ) → bucket_at (chains_hold s) i ≡ Some b → x ≡ get_or (vec_items s.next) i x → x < vec_len s.prev
-  after_within i b x e h = ∥∥₁_elim s.ringed (le_prop {n = suc x}) (λ r.
-      let is = read_next i b x e h in
-      let l = after_low (vec_len s.home) s.buckets (vec_items s.home) (vec_items s.next) (vec_items s.prev) sizes r i b e in
-      omega (arith, s.prevs))
+    -- the rings after the item left them
+    pub unlinked : (m : Marks) (a b : Neighbours) → marks_hold m ≡ lifted (chains_hold s) i
+        → a ≡ get_or (vec_items s.ring) e.prev a → b ≡ get_or (set (vec_items s.ring) e.prev (record { next = e.next; prev = a.prev })) e.next b
+        → ∥ Ringed (marks_hold m) (nexts (joined (vec_items s.ring) e.prev e.next e.next e.prev a b)) (prevs (joined (vec_items s.ring) e.prev e.next e.next e.prev a b)) ∥₁
+    unlinked m a b me ae be = ∥∥₁_map s.ringed (λ r.
+        rw (me, nexts_joined (vec_items s.ring) e.prev e.next e.next e.prev a b ae be, prevs_joined (vec_items s.ring) e.prev e.next e.next e.prev a b ae be, sym (next_read i e node is), sym (prev_read i e node is))
+        (ringed_unlink (chains_hold s) (nexts (vec_items s.ring)) (prevs (vec_items s.ring)) sizes r i home.0 home.1))
 
-  pub first_within : (b j x : ℕ) → b < s.buckets → j ≡ vec_len s.home + b → x ≡ get_or (vec_items s.next) j x → x < vec_len s.prev
-  first_within b j x lt je h = ∥∥₁_elim s.ringed (le_prop {n = suc x}) (λ r.
-      let is = read_first b j x lt je h in
-      let l = first_low (vec_len s.home) s.buckets (vec_items s.home) (vec_items s.next) (vec_items s.prev) sizes r b lt in
-      omega (arith, s.prevs))
+  -- the node after that of a bucket
+  module _ (b j : ℕ) (e : Neighbours) (exists : b < s.marks.buckets) (at : j ≡ (chains_hold s).items + b) (is : e ≡ get_or (vec_items s.ring) j e) where
+    head_read : to (nexts (vec_items s.ring)) ((chains_hold s).items + b) ≡ e.next
+    head_read = ap (to (nexts (vec_items s.ring))) (sym at) ∙ next_read j e (omega (arith, s.nodes)) is
 
-  -- the rings after an item left them, and after one came into them
-  pub unlinked : (i b p q : ℕ) → bucket_at (chains_hold s) i ≡ Some b → p ≡ get_or (vec_items s.prev) i p → q ≡ get_or (vec_items s.next) i q
-      → ∥ Ringed (vec_len s.home) s.buckets (set (vec_items s.home) i None) (set (vec_items s.next) p q) (set (vec_items s.prev) q p) ∥₁
-  unlinked i b p q e pe qe = ∥∥₁_map s.ringed (λ r.
-      rw (read_prev i b p e pe, read_next i b q e qe)
-      (ringed_unlink (vec_len s.home) s.buckets (vec_items s.home) (vec_items s.next) (vec_items s.prev) sizes r i b e))
+    pub first_within : e.next < vec_len s.ring
+    first_within = ∥∥₁_elim s.ringed (le_prop {n = suc e.next}) (λ r.
+        let l = first_low (chains_hold s) (nexts (vec_items s.ring)) (prevs (vec_items s.ring)) sizes r b exists in
+        let x = head_read in
+        omega (arith, s.nodes))
 
-  pub linked : (i b j q : ℕ) → i < vec_len s.home → b < s.buckets → bucket_at (chains_hold s) i ≡ None → j ≡ vec_len s.home + b → q ≡ get_or (vec_items s.next) j q
-      → ∥ Ringed (vec_len s.home) s.buckets (set (vec_items s.home) i (Some b))
-      (set (set (vec_items s.next) i q) j i) (set (set (vec_items s.prev) i j) q i) ∥₁
-  linked i b j q lt bm none je qe = ∥∥₁_map s.ringed (λ r.
-      rw (read_first b j q bm je qe, je)
-      (ringed_link (vec_len s.home) s.buckets (vec_items s.home) (vec_items s.next) (vec_items s.prev) sizes r i b lt bm none))
+    -- it is no item: the bucket has none; it is an item: one of the bucket
+    pub bare_ring : (chains_hold s).items ≤ e.next → Bare (chains_hold s) b
+    bare_ring le i h = ∥∥₁_elim s.ringed ⊥_prop (λ r.
+        let x = head_read in
+        ring_bare (chains_hold s) (nexts (vec_items s.ring)) (prevs (vec_items s.ring)) sizes r b exists (omega arith) i h)
 
-  -- the node after a bucket is no item: the bucket has none; it is an item: one of the bucket
-  pub bare_ring : (b j x : ℕ) → b < s.buckets → j ≡ vec_len s.home + b → x ≡ get_or (vec_items s.next) j x → vec_len s.home ≤ x → Bare (chains_hold s) b
-  bare_ring b j x bm je h le i e = ∥∥₁_elim s.ringed ⊥_prop (λ r.
-      let is = read_first b j x bm je h in
-      ring_bare (vec_len s.home) s.buckets (vec_items s.home) (vec_items s.next) (vec_items s.prev) sizes r b bm (omega arith) i e)
+    pub first_of_ring : e.next < (chains_hold s).items → bucket_at (chains_hold s) e.next ≡ Some b
+    first_of_ring lt = settled (bucket_at (chains_hold s) e.next) b (∥∥₁_map s.ringed (λ r.
+        let x = head_read in
+        ap (bucket_at (chains_hold s)) (sym x) ∙ ring_first (chains_hold s) (nexts (vec_items s.ring)) (prevs (vec_items s.ring)) sizes r b exists (omega arith)))
 
-  pub first_of_ring : (b j x : ℕ) → b < s.buckets → j ≡ vec_len s.home + b → x ≡ get_or (vec_items s.next) j x → x < vec_len s.home → bucket_at (chains_hold s) x ≡ Some b
-  first_of_ring b j x bm je h lt = settled (bucket_at (chains_hold s) x) b (∥∥₁_map s.ringed (λ r.
-      let is = read_first b j x bm je h in
-      ap (λ (y : ℕ). get_or (vec_items s.home) y None) is
-      ∙ ring_first (vec_len s.home) s.buckets (vec_items s.home) (vec_items s.next) (vec_items s.prev) sizes r b bm (omega arith)))
+    -- the rings after an item came between the two
+    pub linked : (i : ℕ) (m : Marks) (x y : Neighbours) → i < (chains_hold s).items → bucket_at (chains_hold s) i ≡ None → marks_hold m ≡ placed (chains_hold s) i b
+        → x ≡ get_or (set (vec_items s.ring) i (record { next = e.next; prev = j })) j x
+        → y ≡ get_or (set (set (vec_items s.ring) i (record { next = e.next; prev = j })) j (record { next = i; prev = x.prev })) e.next y
+        → ∥ Ringed (marks_hold m) (nexts (joined (set (vec_items s.ring) i (record { next = e.next; prev = j })) j i e.next i x y))
+        (prevs (joined (set (vec_items s.ring) i (record { next = e.next; prev = j })) j i e.next i x y)) ∥₁
+    linked i m x y lt none me xe ye = ∥∥₁_map s.ringed (λ r.
+        let new : Neighbours = record { next = e.next; prev = j } in
+        rw (me, nexts_joined (set (vec_items s.ring) i new) j i e.next i x y xe ye, prevs_joined (set (vec_items s.ring) i new) j i e.next i x y xe ye, map-set (λ (k : Neighbours). k.next) (vec_items s.ring) i new, map-set (λ (k : Neighbours). k.prev) (vec_items s.ring) i new, sym head_read, at)
+        (ringed_link (chains_hold s) (nexts (vec_items s.ring)) (prevs (vec_items s.ring)) sizes r i b lt exists none))
+
+  -- where each item has left its ring, the rings are those of a shelf that was cleared
+  pub emptied : (m : Marks) → marks_hold m ≡ cleared (chains_hold s) → ((k : ℕ) → k < (chains_hold s).items → bucket_at (chains_hold s) k ≡ None)
+      → ∥ Ringed (marks_hold m) (nexts (vec_items s.ring)) (prevs (vec_items s.ring)) ∥₁
+  emptied m me none = ∥∥₁_map s.ringed (λ r.
+      rw (me, sym (all_none (chains_hold s).at (chains_hold s).items sizes.sized none))
+      (record { ahead = r.ahead; behind = r.behind; ranked = r.ranked }))
+
+-- nodes that each are alone, with every item nowhere
+alone_at : (f : Neighbours → ℕ) → ((k : ℕ) → f (lone k) ≡ k) → (n k : ℕ) → k < n → to (map f (map lone (range_with_len 0 n))) k ≡ k
+alone_at f same n k lt =
+    let low : k < length (map lone (range_with_len 0 n)) = simp (length-map-range_with_len lone) lt in
+    get_or-map f (map lone (range_with_len 0 n)) k (lone 0) 0 low
+    ∙ ap f (get_or-map-range_with_len lone 0 n k k (lone 0) lt (omega arith)) ∙ same k
+
+pub all_alone : (m : Marks) (ring : List Neighbours) (items buckets : ℕ) → marks_hold m ≡ all_nowhere items buckets
+    → ring ≡ map lone (range_with_len 0 (items + buckets)) → Ringed (marks_hold m) (nexts ring) (prevs ring)
+all_alone m ring items buckets me re =
+    rw (me, re) (ringed_alone (all_nowhere items buckets) (nexts (map lone (range_with_len 0 (items + buckets)))) (prevs (map lone (range_with_len 0 (items + buckets)))) (none_blank items)
+    (alone_at (λ (e : Neighbours). e.next) (λ k. refl) (items + buckets)) (alone_at (λ (e : Neighbours). e.prev) (λ k. refl) (items + buckets)))

@@ -1,34 +1,12 @@
--- The rings as they stand in lists: a list of homes, of next nodes and of previous ones.
+-- The rings as they stand in lists: a list of next nodes and one of previous ones, beside what a shelf holds.
 use Rattle.std.proofs.Common.{◌≡◌, ℕ, ◌+◌, ◌-◌, ◌<◌, ◌≤◌, cond, ltb, ◌≢◌, List, length, get_or, set, Some, None, Option, sym, refl, ap, ◌∙◌, inl, inr, arith, length-set, get_or-set_other, get_or-set_same, le-ltb, lt-ltb}
 use mathlib.Core.Logic.{∥∥₁_elim}
 use mathlib.Core.HLevel.{⊥_prop}
 use Rattle.std.proofs.lemmas.Bool.{cases_lt, cases_eq}
+use Rattle.shelf.specs.Holds.{Holds, bucket_at, lifted, placed, Bare}
 use Rattle.shelf_chains.specs.Rings.{seat_of, Steps, Ringed, to}
 use Rattle.shelf_chains.proofs.Rings.{Set, Two, steps_unlink, steps_link, not_itself, ranked_unlink, ranked_link, bare}
 use Rattle.shelf.proofs.Seats.{listed}
-
-pub seat_item : (n m : ℕ) (home : List (Option ℕ)) (k : ℕ) → k < n → seat_of n m home k ≡ get_or home k None
-seat_item n m home k lt = rw (lt-ltb k n lt)
-
-pub seat_bucket : (n m : ℕ) (home : List (Option ℕ)) (b : ℕ) → b < m → seat_of n m home (n + b) ≡ Some b
-seat_bucket n m home b lt =
-    let high : n ≤ n + b = omega arith in
-    let low : n + b < n + m = omega arith in
-    let e : n + b - n ≡ b = omega arith in
-    rw (le-ltb (n + b) n high, lt-ltb (n + b) (n + m) low) (ap Some e)
-
--- what a seat from the items on says
-bucket_seat : (n m k b : ℕ) → n ≤ k → cond (ltb k (n + m)) (Some (k - n)) None ≡ Some b → (k ≡ n + b) × (k < n + m)
-bucket_seat n m k b le e = elim (cases_lt k (n + m)) [
-  | inl lt ↦ (let w : k - n ≡ b = cc (lt-ltb k (n + m) lt) in (omega arith, lt))
-  | inr ge ↦ (let z : ◌≡◌ {A = ℕ} 0 1 = cc (le-ltb k (n + m) ge) in let w : ⊥ = omega arith in absurd w)
-]
-
-pub seat_node : (n m : ℕ) (home : List (Option ℕ)) (k b : ℕ) → n ≤ k → seat_of n m home k ≡ Some b → (k ≡ n + b) × (k < n + m)
-seat_node n m home k b le e = bucket_seat n m k b le (rw (le-ltb k n le) at e)
-
-pub seat_low : (n m : ℕ) (home : List (Option ℕ)) (k b : ℕ) → seat_of n m home k ≡ Some b → k < n + m
-seat_low n m home k b e = elim (cases_lt k n) [ inl lt ↦ omega arith | inr le ↦ (seat_node n m home k b le e).1 ]
 
 set_to : (l : List ℕ) (i x : ℕ) → i < length l → Set (to l) i x (to (set l i x))
 set_to l i x lt = record { at = get_or-set_same l i x 0 lt; off = λ k ki. get_or-set_other l i k x 0 ki }
@@ -42,114 +20,140 @@ two_to l i x j y li lj ij =
       off = λ k ki kj. get_or-set_other (set l i x) j k y 0 kj ∙ get_or-set_other l i k x 0 ki;
     }
 
-set_seat : (n m : ℕ) (home : List (Option ℕ)) (i : ℕ) (x : Option ℕ) → length home ≡ n → i < n → Set (seat_of n m home) i x (seat_of n m (set home i x))
-set_seat n m home i x e lt =
-    let il : i < length home = omega arith in
-    record {
-      at = seat_item n m (set home i x) i lt ∙ get_or-set_same home i x None il;
-      off = λ k ki. ap (λ (o : Option ℕ). cond (ltb k n) o (cond (ltb k (n + m)) (Some (k - n)) None)) (get_or-set_other home i k x None ki);
-    }
+module _ (h : Holds) where
+  pub seat_item : (k : ℕ) → k < h.items → seat_of h k ≡ bucket_at h k
+  seat_item k lt = rw (lt-ltb k h.items lt)
 
-pub record Sizes (n m : ℕ) (home : List (Option ℕ)) (next prev : List ℕ) : Type 0 where
-  pub homes : length home ≡ n
-  pub nexts : length next ≡ n + m
-  pub prevs : length prev ≡ n + m
+  pub seat_bucket : (b : ℕ) → b < h.buckets → seat_of h (h.items + b) ≡ Some b
+  seat_bucket b lt =
+      let high : h.items ≤ h.items + b = omega arith in
+      let low : h.items + b < h.items + h.buckets = omega arith in
+      let e : h.items + b - h.items ≡ b = omega arith in
+      rw (le-ltb (h.items + b) h.items high, lt-ltb (h.items + b) (h.items + h.buckets) low) (ap Some e)
 
-module _ (n m : ℕ) (home : List (Option ℕ)) (next prev : List ℕ) (sizes : Sizes n m home next prev) where
+  -- what a seat from the items on says
+  bucket_seat : (k b : ℕ) → h.items ≤ k → cond (ltb k (h.items + h.buckets)) (Some (k - h.items)) None ≡ Some b
+      → (k ≡ h.items + b) × (k < h.items + h.buckets)
+  bucket_seat k b le e = elim (cases_lt k (h.items + h.buckets)) [
+    | inl lt ↦ (let w : k - h.items ≡ b = cc (lt-ltb k (h.items + h.buckets) lt) in (omega arith, lt))
+    | inr ge ↦ (let z : ◌≡◌ {A = ℕ} 0 1 = cc (le-ltb k (h.items + h.buckets) ge) in let w : ⊥ = omega arith in absurd w)
+  ]
+
+  pub seat_node : (k b : ℕ) → h.items ≤ k → seat_of h k ≡ Some b → (k ≡ h.items + b) × (k < h.items + h.buckets)
+  seat_node k b le e = bucket_seat k b le (rw (le-ltb k h.items le) at e)
+
+  pub seat_low : (k b : ℕ) → seat_of h k ≡ Some b → k < h.items + h.buckets
+  seat_low k b e = elim (cases_lt k h.items) [ inl lt ↦ omega arith | inr le ↦ (seat_node k b le e).1 ]
+
+  off_item : (i : ℕ) (x : Option ℕ) (k : ℕ) → k ≢ i
+      → cond (ltb k h.items) (get_or (set h.at i x) k None) (cond (ltb k (h.items + h.buckets)) (Some (k - h.items)) None) ≡ seat_of h k
+  off_item i x k ki = ap (λ (o : Option ℕ). cond (ltb k h.items) o (cond (ltb k (h.items + h.buckets)) (Some (k - h.items)) None)) (get_or-set_other h.at i k x None ki)
+
+module _ (h : Holds) (sized : length h.at ≡ h.items) where
+  set_lifted : (i : ℕ) → i < h.items → Set (seat_of h) i None (seat_of (lifted h i))
+  set_lifted i lt = record {
+    at = seat_item (lifted h i) i lt ∙ get_or-set_same h.at i None None (omega arith);
+    off = off_item h i None;
+  }
+
+  set_placed : (i b : ℕ) → i < h.items → Set (seat_of h) i (Some b) (seat_of (placed h i b))
+  set_placed i b lt = record {
+    at = seat_item (placed h i b) i lt ∙ get_or-set_same h.at i (Some b) None (omega arith);
+    off = off_item h i (Some b);
+  }
+
+pub record Sizes (h : Holds) (next prev : List ℕ) : Type 0 where
+  pub sized : length h.at ≡ h.items
+  pub nexts : length next ≡ h.items + h.buckets
+  pub prevs : length prev ≡ h.items + h.buckets
+
+module _ (h : Holds) (next prev : List ℕ) (sizes : Sizes h next prev) where
+  here : (i b : ℕ) → bucket_at h i ≡ Some b → (i < h.items) × (seat_of h i ≡ Some b)
+  here i b e =
+      let l = listed h.at i b e in
+      let lt : i < h.items = omega (arith, sizes.sized) in
+      (lt, seat_item h i lt ∙ e)
+
   -- the nodes before and after an item that stands in a bucket
-  pub before_low : Ringed n m home next prev → (i b : ℕ) → get_or home i None ≡ Some b → to prev i < n + m
-  before_low r i b e =
-      let l = listed home i b e in
-      let here = seat_item n m home i (omega (arith, sizes.homes)) ∙ e in
-      seat_low n m home (to prev i) b (r.behind i b here).0
+  pub before_low : Ringed h next prev → (i b : ℕ) → bucket_at h i ≡ Some b → to prev i < h.items + h.buckets
+  before_low r i b e = seat_low h (to prev i) b (r.behind i b (here i b e).1).0
 
-  pub after_low : Ringed n m home next prev → (i b : ℕ) → get_or home i None ≡ Some b → to next i < n + m
-  after_low r i b e =
-      let l = listed home i b e in
-      let here = seat_item n m home i (omega (arith, sizes.homes)) ∙ e in
-      seat_low n m home (to next i) b (r.ahead i b here).0
+  pub after_low : Ringed h next prev → (i b : ℕ) → bucket_at h i ≡ Some b → to next i < h.items + h.buckets
+  after_low r i b e = seat_low h (to next i) b (r.ahead i b (here i b e).1).0
 
-  pub first_low : Ringed n m home next prev → (b : ℕ) → b < m → to next (n + b) < n + m
-  first_low r b lt = seat_low n m home (to next (n + b)) b (r.ahead (n + b) b (seat_bucket n m home b lt)).0
+  pub first_low : Ringed h next prev → (b : ℕ) → b < h.buckets → to next (h.items + b) < h.items + h.buckets
+  first_low r b lt = seat_low h (to next (h.items + b)) b (r.ahead (h.items + b) b (seat_bucket h b lt)).0
 
-  pub ringed_unlink : Ringed n m home next prev → (i b : ℕ) → get_or home i None ≡ Some b
-      → Ringed n m (set home i None) (set next (to prev i) (to next i)) (set prev (to next i) (to prev i))
+  pub ringed_unlink : Ringed h next prev → (i b : ℕ) → bucket_at h i ≡ Some b
+      → Ringed (lifted h i) (set next (to prev i) (to next i)) (set prev (to next i) (to prev i))
   ringed_unlink r i b e =
       let p = to prev i in
       let q = to next i in
-      let l = listed home i b e in
-      let lt : i < n = omega (arith, sizes.homes) in
-      let here = seat_item n m home i lt ∙ e in
+      let lt = (here i b e).0 in
+      let seat = (here i b e).1 in
       let pl : p < length next = omega (arith, sizes.nexts, before_low r i b e) in
       let ql : q < length prev = omega (arith, sizes.prevs, after_low r i b e) in
-      let qi : q ≢ i = not_itself n (seat_of n m home) (to next) r.ranked i b here lt in
-      let pi : p ≢ i = λ w. qi (sym (ap (to next) w) ∙ (r.behind i b here).1) in
-      let s = set_seat n m home i None sizes.homes lt in
+      let qi : q ≢ i = not_itself h.items (seat_of h) (to next) r.ranked i b seat lt in
+      let pi : p ≢ i = λ w. qi (sym (ap (to next) w) ∙ (r.behind i b seat).1) in
+      let s = set_lifted h sizes.sized i lt in
       let t = set_to next p q pl in
       let u = set_to prev q p ql in
       record {
-        ahead = steps_unlink i p q b r.ahead r.behind here refl refl qi s t u;
-        behind = steps_unlink i q p b r.behind r.ahead here refl refl pi s u t;
-        ranked = ranked_unlink n (seat_of n m home) (seat_of n m (set home i None)) (to next) (to (set next p q)) (to prev) i p q b r.behind here lt refl refl s t r.ranked;
+        ahead = steps_unlink i p q b r.ahead r.behind seat refl refl qi s t u;
+        behind = steps_unlink i q p b r.behind r.ahead seat refl refl pi s u t;
+        ranked = ranked_unlink h.items (seat_of h) (seat_of (lifted h i)) (to next) (to (set next p q)) (to prev) i p q b r.behind seat lt refl refl s t r.ranked;
       }
 
-  pub ringed_link : Ringed n m home next prev → (i b : ℕ) → i < n → b < m → get_or home i None ≡ None
-      → Ringed n m (set home i (Some b)) (set (set next i (to next (n + b))) (n + b) i) (set (set prev i (n + b)) (to next (n + b)) i)
+  pub ringed_link : Ringed h next prev → (i b : ℕ) → i < h.items → b < h.buckets → bucket_at h i ≡ None
+      → Ringed (placed h i b) (set (set next i (to next (h.items + b))) (h.items + b) i) (set (set prev i (h.items + b)) (to next (h.items + b)) i)
   ringed_link r i b lt bm none =
-      let p = n + b in
-      let q = to next (n + b) in
-      let pb = seat_bucket n m home b bm in
+      let p = h.items + b in
+      let q = to next p in
+      let pb = seat_bucket h b bm in
       let qb = (r.ahead p b pb).0 in
-      let out = seat_item n m home i lt ∙ none in
+      let out = seat_item h i lt ∙ none in
       let ip : i ≢ p = λ w. omega arith in
-      let iq : i ≢ q = λ w. let z : ◌≡◌ {A = ℕ} 0 1 = cc (ap (seat_of n m home) w) in omega arith in
+      let iq : i ≢ q = λ w. let z : ◌≡◌ {A = ℕ} 0 1 = cc (ap (seat_of h) w) in omega arith in
       let ql : q < length prev = omega (arith, sizes.prevs, first_low r b bm) in
-      let s = set_seat n m home i (Some b) sizes.homes lt in
+      let s = set_placed h sizes.sized i b lt in
       let t = two_to next i q p i (omega (arith, sizes.nexts)) (omega (arith, sizes.nexts)) ip in
       let u = two_to prev i p q i (omega (arith, sizes.prevs)) ql iq in
       record {
         ahead = steps_link i p q b r.ahead out pb qb refl (r.ahead p b pb).1 s t u;
         behind = steps_link i q p b r.behind out qb pb (r.ahead p b pb).1 refl s u t;
-        ranked = ranked_link n (seat_of n m home) (seat_of n m (set home i (Some b))) (to next) (to (set (set next i q) p i)) (to prev) i p q b r.ahead out qb (omega arith) s t r.ranked;
+        ranked = ranked_link h.items (seat_of h) (seat_of (placed h i b)) (to next) (to (set (set next i q) p i)) (to prev) i p q b r.ahead out qb (omega arith) s t r.ranked;
       }
 
   -- where the ring of a bucket comes back to no item at once, the bucket has none
-  pub ring_bare : Ringed n m home next prev → (b : ℕ) → b < m → n ≤ to next (n + b) → (i : ℕ) → get_or home i None ≡ Some b → ⊥
+  pub ring_bare : Ringed h next prev → (b : ℕ) → b < h.buckets → h.items ≤ to next (h.items + b) → Bare h b
   ring_bare r b bm high i e =
-      let l = listed home i b e in
-      let lt : i < n = omega (arith, sizes.homes) in
-      let here = seat_bucket n m home b bm in
-      let alone = (seat_node n m home (to next (n + b)) b high (r.ahead (n + b) b here).0).0 in
-      bare n (n + b) b (seat_of n m home) (to next) (to prev) r.ahead (λ k le s. (seat_node n m home k b le s).0) (omega arith) here alone
-      r.ranked (r.ranked.rank i + 1) i (omega arith) lt (seat_item n m home i lt ∙ e)
+      let head = seat_bucket h b bm in
+      let alone = (seat_node h (to next (h.items + b)) b high (r.ahead (h.items + b) b head).0).0 in
+      bare h.items (h.items + b) b (seat_of h) (to next) (to prev) r.ahead (λ k le s. (seat_node h k b le s).0) (omega arith) head alone
+      r.ranked (r.ranked.rank i + 1) i (omega arith) (here i b e).0 (here i b e).1
 
   -- the first item of a ring stands in the bucket
-  pub ring_first : Ringed n m home next prev → (b : ℕ) → b < m → to next (n + b) < n → get_or home (to next (n + b)) None ≡ Some b
-  ring_first r b bm low = sym (seat_item n m home (to next (n + b)) low) ∙ (r.ahead (n + b) b (seat_bucket n m home b bm)).0
+  pub ring_first : Ringed h next prev → (b : ℕ) → b < h.buckets → to next (h.items + b) < h.items → bucket_at h (to next (h.items + b)) ≡ Some b
+  ring_first r b bm low = sym (seat_item h (to next (h.items + b)) low) ∙ (r.ahead (h.items + b) b (seat_bucket h b bm)).0
 
 -- nodes that each are alone, with every item nowhere, stand in rings
-pub ringed_alone : (n m : ℕ) (home : List (Option ℕ)) (next prev : List ℕ) → ((i : ℕ) → get_or home i None ≡ None)
-    → ((k : ℕ) → k < n + m → to next k ≡ k) → ((k : ℕ) → k < n + m → to prev k ≡ k) → Ringed n m home next prev
-ringed_alone n m home next prev none nexts prevs = record {
+pub ringed_alone : (h : Holds) (next prev : List ℕ) → ((i : ℕ) → bucket_at h i ≡ None)
+    → ((k : ℕ) → k < h.items + h.buckets → to next k ≡ k) → ((k : ℕ) → k < h.items + h.buckets → to prev k ≡ k) → Ringed h next prev
+ringed_alone h next prev none nexts prevs = record {
   ahead = steps_alone next prev nexts prevs;
   behind = steps_alone prev next prevs nexts;
   ranked = record {
     rank = λ k. k;
-    falls = λ k b e low high. (let z : ◌≡◌ {A = ℕ} 0 1 = cc (seat_item n m home k low, none k) in omega arith);
+    falls = λ k b e low high. (let z : ◌≡◌ {A = ℕ} 0 1 = cc (seat_item h k low, none k) in omega arith);
   };
 }
   where
-    steps_alone : (next prev : List ℕ) → ((k : ℕ) → k < n + m → to next k ≡ k) → ((k : ℕ) → k < n + m → to prev k ≡ k)
-        → Steps (seat_of n m home) (to next) (to prev)
+    steps_alone : (next prev : List ℕ) → ((k : ℕ) → k < h.items + h.buckets → to next k ≡ k) → ((k : ℕ) → k < h.items + h.buckets → to prev k ≡ k)
+        → Steps (seat_of h) (to next) (to prev)
     steps_alone next prev nexts prevs k b e =
-        let lt = seat_low n m home k b e in
+        let lt = seat_low h k b e in
         let same = nexts k lt in
-        (ap (seat_of n m home) same ∙ e, ap (to prev) same ∙ prevs k lt)
-
--- an item that is not nowhere is somewhere
-pub somewhere : (o : Option ℕ) → (o ≡ None → ⊥) → (b : ℕ) × (o ≡ Some b)
-somewhere None h = absurd (h refl)
-somewhere (Some b) h = (b, refl)
+        (ap (seat_of h) same ∙ e, ap (to prev) same ∙ prevs k lt)
 
 -- an equation of buckets that holds behind a truncation holds
 pub settled : (o : Option ℕ) (b : ℕ) → ∥ o ≡ Some b ∥₁ → o ≡ Some b

@@ -1,9 +1,11 @@
--- How chains stand: every bucket is a ring through its items. The nodes are the n items, then the m buckets.
-use Rattle.std.specs.Prelude.{◌≡◌, ℕ, ◌+◌, ◌-◌, ◌<◌, cond, List, Some, None, Option, nat_lt, slice_index, slice_index_or}
+-- How chains stand: every bucket is a ring through its items. The nodes are the items, then the buckets.
+use Rattle.std.specs.Prelude.{◌≡◌, ℕ, ◌+◌, ◌-◌, ◌<◌, cond, List, Some, None, Option, map, nat_lt, slice_index}
+use Rattle.shelf.specs.Holds.{Holds, bucket_at}
+use Rattle.shelf_chains.specs.declared.chains.Neighbours.{Neighbours}
 
--- the bucket in whose ring the node k is: that of an item is its home, and the node n + b is in the ring of the bucket b
-abbrev pub seat_of : ℕ → ℕ → List (Option ℕ) → ℕ → Option ℕ
-seat_of n m home k = cond (nat_lt k n) (slice_index_or home k None) (cond (nat_lt k (n + m)) (Some (k - n)) None)
+-- the bucket in whose ring the node k is: that of an item is where it stands, and the node items + b is in the ring of the bucket b
+abbrev pub seat_of : Holds → ℕ → Option ℕ
+seat_of h k = cond (nat_lt k h.items) (bucket_at h k) (cond (nat_lt k (h.items + h.buckets)) (Some (k - h.items)) None)
 
 -- a step from a node leads to a node of the same ring, and the step back returns
 abbrev pub Steps : (ℕ → Option ℕ) → (ℕ → ℕ) → (ℕ → ℕ) → Type 0
@@ -14,12 +16,23 @@ pub record Ranked (n : ℕ) (seat : ℕ → Option ℕ) (step : ℕ → ℕ) : T
   pub rank : ℕ → ℕ
   pub falls : (k b : ℕ) → seat k ≡ Some b → k < n → step k < n → rank (step k) < rank k
 
+-- the next and the previous node of each node
+abbrev pub nexts : List Neighbours → List ℕ
+nexts ring = map (λ (k : Neighbours). k.next) ring
+
+abbrev pub prevs : List Neighbours → List ℕ
+prevs ring = map (λ (k : Neighbours). k.prev) ring
+
+-- what the node k has while it is alone in its ring
+abbrev pub lone : ℕ → Neighbours
+lone k = record { next = k; prev = k }
+
 -- the node that a list names for the node k
 abbrev pub to : List ℕ → ℕ → ℕ
 to l k = slice_index l k
 
--- n items with their homes and m buckets stand in rings
-pub record Ringed (n m : ℕ) (home : List (Option ℕ)) (next prev : List ℕ) : Type 0 where
-  pub ahead : Steps (seat_of n m home) (to next) (to prev)
-  pub behind : Steps (seat_of n m home) (to prev) (to next)
-  pub ranked : Ranked n (seat_of n m home) (to next)
+-- the items where they stand, and the buckets, stand in rings
+pub record Ringed (h : Holds) (next prev : List ℕ) : Type 0 where
+  pub ahead : Steps (seat_of h) (to next) (to prev)
+  pub behind : Steps (seat_of h) (to prev) (to next)
+  pub ranked : Ranked h.items (seat_of h) (to next)

@@ -1,21 +1,22 @@
-ghost use Rattle.std.specs.Prelude.{◌≡◌, ℕ, ◌+◌, ◌<◌, IfOk, vec_len, slice_index};
-ghost use Rattle.shelf.specs.Holds.{all_nowhere, bucket_at, lifted};
+ghost use Rattle.std.specs.Prelude.{◌≡◌, ◌+◌, IfOk, map};
+ghost use Rattle.std.specs.List.{range_with_len};
+ghost use Rattle.shelf.specs.Holds.{all_nowhere};
 ghost use Rattle.shelf_chains.specs.Means.{chains_hold};
+ghost use Rattle.shelf_chains.specs.Rings.{lone};
 ghost use Rattle.std.proofs.Common.{sym};
 
-use super::chains::Chains;
+use super::chains::{Chains, Neighbours};
 use shelf::Shelf;
+use shelf::marks::Marks;
 use std::alloc::{AllocError, Global};
 
 /// So many nodes, each in a ring of its own.
-fn alone(heap: Global, nodes: usize) -> Result<Vec<usize>, AllocError>
-    ensures { IfOk result (λ v. (vec_len v ≡ nodes) × ((k : ℕ) → k < nodes → slice_index v.items k ≡ k)) }
+fn alone(heap: Global, nodes: usize) -> Result<Vec<Neighbours>, AllocError>
+    ensures { IfOk result (λ v. v.items ≡ map lone (range_with_len 0 nodes)) }
 {
-    let mut ring = vec![in heap; 0; nodes]?;
-    for k in 0..nodes {
-        ring[k] = k;
-    }
-    Ok(ring)
+    (0..nodes)
+        .map(|k| Neighbours { next: k, prev: k })
+        .collect(heap)
 }
 
 impl Chains {
@@ -23,111 +24,82 @@ impl Chains {
     pub fn new(heap: Global, items: u32, buckets: u32) -> Result<Chains, AllocError>
         ensures { IfOk result (λ s. chains_hold s ≡ all_nowhere items buckets) }
     {
-        let nodes = items as usize + buckets as usize;
-        let home = vec![in heap; None; items as usize]?;
-        let next = alone(heap, nodes)?;
-        let prev = alone(heap, nodes)?;
-        Ok(Chains {
-            home,
-            next,
-            prev,
-            buckets,
-            puts: 0,
-        })
+        let marks = Marks::new(heap, items, buckets)?;
+        let ring = alone(heap, items as usize + buckets as usize)?;
+        Ok(Chains { marks, ring })
     }
 
-    /// The bucket of an item, or none where it is nowhere.
-    fn home_of(&self, i: usize) -> Option<u32>
-        ensures { result ≡ bucket_at (chains_hold self.now) i }
+    /// The node of a bucket.
+    fn head(&self, bucket: u32) -> usize
+        ensures { result ≡ (chains_hold self.now).items + bucket }
     {
-        if i < self.home.len() {
-            self.home[i]
-        } else {
-            None
-        }
-    }
-
-    /// Takes an item out of its ring, if it is in one, and closes the ring.
-    fn unlink(&mut self, i: usize)
-        ensures { chains_hold self.new ≡ lifted (chains_hold self.old) i }
-    {
-        if self.home_of(i).is_none() {
-            return;
-        }
-        let before = self.prev[i];
-        let after = self.next[i];
-        self.next[before] = after;
-        self.prev[after] = before;
-        self.home[i] = None;
+        self.items() as usize + bucket as usize
     }
 }
 
 impl Shelf for Chains {
     ghost meaning = { chains_hold };
 
-    ghost sized = { λ s. sym s.home.ok.0 };
+    ghost sized = { λ s. sym s.marks.marks.ok.0 };
 
-    ghost inside = { λ s. s.inside };
+    ghost inside = { λ s. s.marks.inside };
 
-    ghost counted = { λ s. s.counted };
+    ghost counted = { λ s. s.marks.counted };
 
     fn items(&self) -> u32 {
-        self.home.len() as u32
+        self.marks.items()
     }
 
     fn buckets(&self) -> u32 {
-        self.buckets
+        self.marks.buckets()
     }
 
     fn count(&self) -> u32 {
-        self.puts
+        self.marks.count()
     }
 
     fn bucket_of(&self, item: u32) -> Option<u32> {
-        self.home_of(item as usize)
+        self.marks.bucket_of(item)
     }
 
     fn clear(&mut self) {
-        for i in 0..self.home.len() {
-            self.unlink(i);
+        // Kept: a loop over item numbers. A reset of the nodes would take time for each bucket too.
+        for item in 0..self.items() {
+            self.lift(item);
         }
-        self.puts = 0;
+        self.marks.clear();
     }
 
     fn put(&mut self, item: u32, bucket: u32) -> bool {
+        let head = self.head(bucket);
+        if !self.marks.put(item, bucket) {
+            return false;
+        }
         let i = item as usize;
-        let n = self.home.len();
-        if i >= n || bucket >= self.buckets || self.puts >= 65535 {
-            return false;
-        }
-        if self.home_of(i).is_some() {
-            return false;
-        }
-        let b = n + bucket as usize;
-        let after = self.next[b];
-        self.next[i] = after;
-        self.next[b] = i;
-        self.prev[i] = b;
-        self.prev[after] = i;
-        self.home[i] = Some(bucket);
-        self.puts += 1;
+        let next = self.ring[head].next;
+        self.ring[i] = Neighbours { next, prev: head };
+        self.ring[head].next = i;
+        self.ring[next].prev = i;
         true
     }
 
     fn lift(&mut self, item: u32) {
-        self.unlink(item as usize);
+        if self.bucket_of(item).is_none() {
+            return;
+        }
+        let Neighbours { next, prev } = self.ring[item as usize];
+        self.ring[prev].next = next;
+        self.ring[next].prev = prev;
+        self.marks.lift(item);
     }
 
     fn take(&mut self, bucket: u32) -> Option<u32> {
-        if bucket >= self.buckets {
+        let first = self.ring.get(self.head(bucket))?.next;
+        if first >= self.items() as usize {
             return None;
         }
-        let n = self.home.len();
-        let i = self.next[n + bucket as usize];
-        if i >= n {
-            return None;
-        }
-        self.unlink(i);
-        Some(i as u32)
+        let item = first as u32;
+        self.lift(item);
+        Some(item)
     }
 }

@@ -1,8 +1,10 @@
-use Rattle.std.proofs.Common.{◌≡◌, ℕ, ◌<◌, get_or, None, vec_items, vec_len}
+use Rattle.std.proofs.Common.{◌≡◌, ℕ, ◌<◌, None}
+use Rattle.shelf.specs.Holds.{bucket_at}
+use Rattle.shelf_chains.specs.Means.{chains_hold}
 use Rattle.shelf_chains.proofs.chains_shelf.ChainsShelf.clear.Given as goal
 
-abbrev pub invariant-loop-i : goal.invariant-loop-i
-invariant-loop-i l =
-    (vec_len l.self.home ≡ vec_len l.initial.self.home)
-    × (l.self.buckets ≡ l.initial.self.buckets)
-    × ((k : ℕ) → k < l.i → get_or (vec_items l.self.home) k None ≡ None)
+abbrev pub invariant-loop-item : goal.invariant-loop-item
+invariant-loop-item l =
+    ((chains_hold l.self).items ≡ (chains_hold l.initial.self).items)
+    × ((chains_hold l.self).buckets ≡ (chains_hold l.initial.self).buckets)
+    × ((k : ℕ) → k < l.item → bucket_at (chains_hold l.self) k ≡ None)
