@@ -1,8 +1,10 @@
 -- The laws of the lesser of two delays, and what the least of a row of them is.
-use Rattle.std.proofs.Common.{◌≡◌, ℕ, zero, suc, ◌+◌, ◌-◌, ◌<◌, ◌≤◌, min, ◌⊎◌, List, length, get_or, replicate, Some, None, Option, sym, refl, ap, ◌∙◌, subst, inl, inr, arith, ext_get_or, MatchOption}
+use Rattle.std.proofs.Common.{◌≡◌, ℕ, zero, suc, ◌+◌, ◌-◌, ◌<◌, ◌≤◌, min, ◌⊎◌, List, [], ◌∷◌, ◌++◌, length, get_or, take, drop, drop-cons, replicate, Some, None, Option, sym, refl, ap, ◌∙◌, subst, inl, inr, arith, MatchOption}
 use lib.ListN.{length-replicate, get_or-replicate}
 use Rattle.std.proofs.lemmas.Bool.{cases_lt}
-use Rattle.std.proofs.lemmas.List.{get_or_past}
+use Rattle.std.proofs.lemmas.List.{get_or_past, get_or-take, drop_all, length-take}
+use Rattle.std.specs.List.{reduce, fold, flat_map}
+use Rattle.std.specs.Option.{option_to_list}
 use Rattle.keeper.specs.Keeps.{Keeps, delay_at, NoDelay, LeastFrom}
 use Rattle.keeper.specs.Lesser.{lesser_of, least_in}
 
@@ -108,13 +110,6 @@ least_answers k sized first last r is = go r (subst (Tells (delay_at k) first (s
     ];
   }
 
--- the first of a row is taken into the best so far
-pub take_first : (f : ℕ → Option ℕ) (best : Option ℕ) (low high : ℕ) → low < high
-    → lesser_of (lesser_of best (f low)) (least_in f (low + 1) (high - (low + 1))) ≡ lesser_of best (least_in f low (high - low))
-take_first f best low high lt =
-    let e : high - low ≡ suc (high - (low + 1)) = omega arith in
-    lesser_assoc best (f low) (least_in f (low + 1) (high - (low + 1))) ∙ ap (λ (n : ℕ). lesser_of best (least_in f low n)) (sym e)
-
 -- a row of no places adds nothing to the best so far
 pub all_taken : (f : ℕ → Option ℕ) (best : Option ℕ) (low high : ℕ) → high ≤ low → lesser_of best (least_in f low (high - low)) ≡ best
 all_taken f best low high le = let e : high - low ≡ 0 = omega arith in ap (λ (n : ℕ). lesser_of best (least_in f low n)) e ∙ lesser_none best
@@ -126,7 +121,27 @@ none_blank n i = elim (cases_lt i n) [
   | inr l ↦ (let p : length (replicate {A = Option ℕ} n None) ≤ i = simp length-replicate (omega arith) in get_or_past (replicate n None) i None p)
 ]
 
--- where no place has a delay, the list is blank
-pub all_none : (l : List (Option ℕ)) (n : ℕ) → length l ≡ n → ((i : ℕ) → i < n → get_or l i None ≡ None) → l ≡ replicate n None
-all_none l n e h = ext_get_or None l (replicate n None) (e ∙ sym (length-replicate n None))
-    (λ i lt. let below : i < n = omega arith in h i below ∙ sym (get_or-replicate n i None None below))
+-- the least of a list of delays, once one more stands before it
+least_more : (o : Option ℕ) (l : List ℕ) → reduce min (option_to_list o ++ l) ≡ lesser_of o (reduce min l)
+least_more None l = refl
+least_more (Some x) [] = refl
+least_more (Some x) (y ∷ l) = ap Some (fold_min x y l) where
+  fold_min : (x y : ℕ) (l : List ℕ) → fold min (min x y) l ≡ min x (fold min y l)
+  fold_min x y [] = refl
+  fold_min x y (z ∷ l) = let e : min (min x y) z ≡ min x (min y z) = omega arith in ap (λ (k : ℕ). fold min k l) e ∙ fold_min x (min y z) l
+
+-- the least of the delays that stand in a list from one place to before another
+pub least_listed : (l : List (Option ℕ)) (from to many : ℕ) → many ≡ min (length l) to - from
+    → reduce min (flat_map option_to_list (drop from (take to l))) ≡ least_in (λ p. get_or l p None) from many
+least_listed l from to zero e =
+    let past : length (take to l) ≤ from = omega (arith, length-take to l) in
+    ap (λ (k : List (Option ℕ)). reduce min (flat_map option_to_list k)) (drop_all from (take to l) past)
+least_listed l from to (suc many) e =
+    let below : from < to = omega arith in
+    let there : from < length (take to l) = omega (arith, length-take to l) in
+    let next : suc from ≡ from + 1 = omega arith in
+    ap (λ (k : List (Option ℕ)). reduce min (flat_map option_to_list k)) (drop-cons (take to l) from None there)
+    ∙ least_more (get_or (take to l) from None) (flat_map option_to_list (drop (suc from) (take to l)))
+    ∙ ap (λ (o : Option ℕ). lesser_of o (reduce min (flat_map option_to_list (drop (suc from) (take to l))))) (get_or-take to l from None below)
+    ∙ ap (λ (k : ℕ). lesser_of (get_or l from None) (reduce min (flat_map option_to_list (drop k (take to l))))) next
+    ∙ ap (lesser_of (get_or l from None)) (least_listed l (from + 1) to many (omega arith))

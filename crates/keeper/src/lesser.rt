@@ -6,8 +6,7 @@ pub fn lesser(a: Option<u64>, b: Option<u64>) -> Option<u64>
     ensures { result ≡ lesser_of a b }
 {
     match (a, b) {
-        (None, b) => b,
-        (Some(x), None) => Some(x),
+        (None, only) | (only, None) => only,
         (Some(x), Some(y)) => Some(x.min(y)),
     }
 }

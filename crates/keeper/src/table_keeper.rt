@@ -4,7 +4,6 @@ ghost use Rattle.keeper.specs.Means.{table_keeps};
 ghost use Rattle.std.proofs.Common.{sym};
 
 use super::Keeper;
-use super::lesser::lesser;
 use super::table::Table;
 use std::alloc::{AllocError, Global};
 
@@ -28,38 +27,33 @@ impl Keeper for Table {
     }
 
     fn clear(&mut self) {
-        for place in 0..self.delays.len() {
-            self.delays[place] = None;
-        }
+        self.delays.fill(None);
     }
 
     fn lower(&mut self, place: u32, d: u64) -> bool {
-        let p = place as usize;
-        if p >= self.delays.len() {
+        let Some(slot) = self.delays.get_mut(place as usize) else {
+            return false;
+        };
+        if slot.is_some_and(|y| y <= d) {
             return false;
         }
-        if let Some(y) = self.delays[p] {
-            if y <= d {
-                return false;
-            }
-        }
-        self.delays[p] = Some(d);
+        *slot = Some(d);
         true
     }
 
     fn retire(&mut self, place: u32) {
-        let p = place as usize;
-        if p < self.delays.len() {
-            self.delays[p] = None;
+        if let Some(slot) = self.delays.get_mut(place as usize) {
+            *slot = None;
         }
     }
 
     fn least(&self, first: u32, last: u32) -> Option<u64> {
-        let end = self.delays.len().min(last as usize + 1);
-        let mut best = None;
-        for p in first as usize..end {
-            best = lesser(best, self.delays[p]);
-        }
-        best
+        self.delays
+            .iter()
+            .take(last as usize + 1)
+            .skip(first as usize)
+            .copied()
+            .flatten()
+            .min()
     }
 }

@@ -4,7 +4,7 @@ use Rattle.std.proofs.lemmas.Bool.{cases_eq, cases_lt}
 use Rattle.std.proofs.lemmas.List.{get_or-drop, drop-replicate}
 use Rattle.keeper.specs.Lesser.{lesser_of, least_in}
 use Rattle.keeper_tree.specs.Trees.{Over, OverBut, under}
-use Rattle.keeper.proofs.Leasts.{lesser_none, lesser_assoc, lesser_comm, none_blank}
+use Rattle.keeper.proofs.Leasts.{lesser_none, lesser_assoc, lesser_comm}
 
 -- once the node j is right, only the node above it may be wrong
 pub mend_climbs : (n : ℕ) (nodes : List (Option ℕ)) (j : ℕ) (d : Option ℕ) → 1 ≤ j → j < length nodes → d ≡ lesser_of (under nodes (2 * j)) (under nodes (2 * j + 1))
@@ -169,12 +169,7 @@ shifted n nodes from (suc many) =
     ap (λ (x : Option ℕ). lesser_of x (least_in (λ p. get_or (drop n nodes) p None) (from + 1) many)) (get_or-drop n nodes from None)
     ∙ ap (lesser_of (under nodes (n + from))) (shifted n nodes (from + 1) many ∙ ap (λ (x : ℕ). least_in (under nodes) x many) e)
 
--- a blank tree is right, and its places are blank
-pub over_blank : (n m : ℕ) (nodes : List (Option ℕ)) → nodes ≡ replicate m None → Over n (under nodes)
-over_blank n m nodes e k r = none k ∙ sym (ap (λ (x : Option ℕ). lesser_of x (under nodes (2 * k + 1))) (none (2 * k)) ∙ none (2 * k + 1)) where
-  none : (k : ℕ) → under nodes k ≡ None
-  none k = ap (λ (l : List (Option ℕ)). under l k) e ∙ none_blank m k
-
+-- the places of a blank tree are blank
 pub places_blank : (n m : ℕ) (nodes : List (Option ℕ)) → m ≡ n + n → nodes ≡ replicate m None → drop n nodes ≡ replicate n None
 places_blank n m nodes me e =
     let half : m - n ≡ n = omega arith in

@@ -6,6 +6,7 @@ ghost use Rattle.keeper_tree.specs.Trees.{Over, under};
 #[derive(Drop)]
 pub struct Tree {
     pub(crate) nodes: Vec<Option<u64>>,
+    // Kept: `places` beside twice as many nodes, since without it each call halves `nodes.len()`, and a ghost field still has to say that it is even.
     pub(crate) places: u32,
     ghost few: { places < 2 ^ 32 },
     ghost sized: { vec_len nodes ≡ places + places },

@@ -10,31 +10,6 @@ use keeper::Keeper;
 use keeper::lesser::lesser;
 use std::alloc::{AllocError, Global};
 
-/// Mends the tree of `n` places where only the node `k` may be wrong: that node, and then the nodes above it.
-fn mend(nodes: &mut Vec<Option<u64>>, n: usize, mut k: usize)
-    requires sized { vec_len nodes.old ≡ n + n }
-    requires inner { k < n }
-    requires rest { OverBut n k (under nodes.old.items) }
-    ensures sized { vec_len nodes.new ≡ n + n }
-    ensures over { Over n (under nodes.new.items) }
-    ensures kept { drop n nodes.new.items ≡ drop n nodes.old.items }
-{
-    while k >= 1 {
-        nodes[k] = lesser(nodes[2 * k], nodes[2 * k + 1]);
-        k /= 2;
-    }
-}
-
-/// Sets every node to none.
-fn wipe(nodes: &mut Vec<Option<u64>>)
-    ensures sized { vec_len nodes.new ≡ vec_len nodes.old }
-    ensures none { nodes.new.items ≡ replicate (vec_len nodes.old) None }
-{
-    for k in 0..nodes.len() {
-        nodes[k] = None;
-    }
-}
-
 impl Tree {
     /// A keeper of so many places, each with none.
     pub fn new(heap: Global, places: u32) -> Result<Tree, AllocError>
@@ -49,10 +24,10 @@ impl Tree {
     fn delay_at(&self, place: u32) -> Option<u64>
         ensures { result ≡ delay_at (tree_keeps self.now) place }
     {
-        if place >= self.places {
-            return None;
-        }
-        self.nodes[self.places as usize + place as usize]
+        self.nodes
+            .get(self.places as usize + place as usize)
+            .copied()
+            .flatten()
     }
 
     /// Gives a place a delay or none, and mends the nodes above it.
@@ -60,10 +35,13 @@ impl Tree {
         requires { place < self.old.places }
         ensures { tree_keeps self.new ≡ noted (tree_keeps self.old) place d }
     {
-        let n = self.places as usize;
-        let leaf = n + place as usize;
-        self.nodes[leaf] = d;
-        mend(&mut self.nodes, n, leaf / 2);
+        let mut k = self.places as usize + place as usize;
+        let nodes = &mut self.nodes;
+        nodes[k] = d;
+        while k >= 2 {
+            k /= 2;
+            nodes[k] = lesser(nodes[2 * k], nodes[2 * k + 1]);
+        }
     }
 }
 
@@ -77,17 +55,12 @@ impl Keeper for Tree {
     }
 
     fn clear(&mut self) {
-        wipe(&mut self.nodes);
+        self.nodes.fill(None);
     }
 
     fn lower(&mut self, place: u32, d: u64) -> bool {
-        if place >= self.places {
+        if place >= self.places || self.delay_at(place).is_some_and(|y| y <= d) {
             return false;
-        }
-        if let Some(y) = self.delay_at(place) {
-            if y <= d {
-                return false;
-            }
         }
         self.note(place, Some(d));
         true

@@ -1,27 +1,25 @@
-use Rattle.std.proofs.Common.{◌≡◌, ℕ, ◌+◌, ◌-◌, ◌<◌, length, None, vec_items, Option, sym, ap, ◌∙◌, rules}
-use Rattle.std.proofs.lemmas.List.{get_or_read}
-use Rattle.keeper.specs.Keeps.{delay_at}
-use Rattle.keeper.specs.Lesser.{lesser_of, least_in}
+use Rattle.std.proofs.Common.{rules, ◌≡◌, ◌+◌, min, drop, take, vec_items, sym, ◌∙◌, length, arith}
+use Rattle.std.specs.List.{reduce, flat_map}
+use Rattle.std.specs.Option.{option_to_list}
+use Rattle.std.proofs.lemmas.Iterator.{YieldsList-from_slice, YieldsList-from_take}
+use Rattle.std.proofs.lemmas.Iterator.Adapters.{YieldsList-from_skip, YieldsList-from_flatten, YieldsList-from_once, option_map_id}
+use Rattle.std.proofs.lemmas.Iterator.Consumers.{YieldsList-at, YieldsList-from_copied, min_from_yields_List}
 use Rattle.keeper.specs.Means.{table_keeps}
-use Rattle.keeper.proofs.Leasts.{span, take_first, all_taken, least_answers}
+use Rattle.keeper.proofs.Leasts.{span, least_answers, least_listed}
 use Rattle.keeper.proofs.table_keeper.TableKeeper.least.Goals as goal
-
-pub loop-p-preserved : goal.loop-p-preserved
-loop-p-preserved c =
-    let f : ℕ → Option ℕ = delay_at (table_keeps c.args.self.now) in
-    let p = c.loop-p.p in
-    let end = c.min-end.result in
-    let lt : p < length (vec_items c.args.self.now.delays) = search rules in
-    let read : c.index.result.now ≡ f p = get_or_read (vec_items c.args.self.now.delays) p c.index.result.now lt c.index.ensures None in
-    ap (λ (b : Option ℕ). lesser_of b (least_in f (p + 1) (end - (p + 1)))) (c.lesser-best.ensures ∙ ap (lesser_of c.loop-p.best) read)
-    ∙ take_first f c.loop-p.best p end c.loop-p-test.true
-    ∙ c.loop-p.invariant
 
 pub returns : goal.returns
 returns c =
+    let l = vec_items c.args.self.now.delays in
+    let e : c.min.result ≡ reduce min (flat_map option_to_list (drop c.args.first (take (c.args.last + 1) l))) =
+    sym (option_map_id c.min.result) ∙ min_from_yields_List _ c.min.result c.min.ensures.ran
+    (YieldsList-from_flatten _ _ (λ x. x) option_to_list (λ x j b. YieldsList-from_once x b.0)
+    (YieldsList-at c.flatten.ensures.source (YieldsList-from_copied
+    (YieldsList-at c.copied.ensures.source (YieldsList-from_skip c.args.first
+    (YieldsList-at c.skip.ensures.source (YieldsList-from_take (c.args.last + 1) (YieldsList-at c.take.ensures.source (YieldsList-from_slice l cc)) c.take.ensures.count))
+    c.skip.ensures.count))))
+    c.flatten.ensures.front c.flatten.ensures.back c.flatten.ensures.done) in
     let k = table_keeps c.args.self.now in
-    let e : c.min-end.result - c.args.first ≡ span k.places c.args.first c.args.last = search rules in
-    least_answers k (search rules) c.args.first c.args.last c.loop-p.best
-    (sym (all_taken (delay_at k) c.loop-p.best c.loop-p.p c.min-end.result c.loop-p-test.false)
-    ∙ c.loop-p.invariant
-    ∙ ap (least_in (delay_at k) c.args.first) e)
+    let sized : length k.delays ≡ k.places = search rules in
+    least_answers k sized c.args.first c.args.last c.min.result
+    (e ∙ least_listed l c.args.first (c.args.last + 1) (span k.places c.args.first c.args.last) (omega arith))

@@ -1,16 +1,6 @@
 use Rattle.std.proofs.Common.{◌≡◌, ◌+◌, replicate, None, vec_items, refl, rules}
-use Rattle.keeper_tree.proofs.Climbs.{over_blank, places_blank}
+use Rattle.keeper_tree.proofs.Climbs.{places_blank}
 use Rattle.keeper_tree.proofs.tree.Tree.new.Goals as goal
-
-pub invariant_of-result : goal.invariant_of-result
-invariant_of-result c =
-    let n = c.args.places in
-    let e : vec_items c.in_ok-nodes.nodes ≡ replicate (n + n) None = search rules in
-    record {
-      few = search rules;
-      sized = search rules;
-      over = over_blank n (n + n) (vec_items c.in_ok-nodes.nodes) e;
-    }
 
 pub returns : goal.returns
 returns c =
