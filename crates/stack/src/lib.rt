@@ -9,6 +9,7 @@ ghost use Rattle.stack.specs.Stacked.{Pushed, Popped};
 /// are popped. What the slice holds past the stack stays as it was.
 #[derive(Drop)]
 pub struct Stack<'a, T> {
+    // Kept: a length beside the slice, since the stack stands in memory that is lent to it and allocates none.
     room: &'a mut [T],
     len: usize,
     ghost within: { len ≤ length room.now },
@@ -42,11 +43,7 @@ impl<'a, T: Copy> Stack<'a, T> {
     pub fn top(&self) -> Option<T>
         ensures { MatchOption result (self.now.len ≡ 0) (λ x. Popped self.now.room.now self.now.len x self.now.room.now (self.now.len - 1)) }
     {
-        if self.len == 0 {
-            return None;
-        }
-        let room = &*self.room;
-        Some(room[self.len - 1])
+        self.room[..self.len].last().copied()
     }
 
     /// Pushes an element to the end. Where the slice is full it answers no, and nothing changes.
@@ -57,6 +54,7 @@ impl<'a, T: Copy> Stack<'a, T> {
             × (self.new.len ≡ self.old.len) × (self.new.room.now ≡ self.old.room.now) }
         ensures lent { self.new.room.ghost_name ≡ self.old.room.ghost_name }
     {
+        // Kept: the test in place of `get_mut`, whose proof does not close: it does not say what the slice holds once its borrow ends.
         if self.len >= self.room.len() {
             return false;
         }
@@ -72,10 +70,8 @@ impl<'a, T: Copy> Stack<'a, T> {
             (λ x. Popped self.old.room.now self.old.len x self.new.room.now self.new.len) }
         ensures lent { self.new.room.ghost_name ≡ self.old.room.ghost_name }
     {
-        if self.len == 0 {
-            return None;
-        }
+        let top = self.top()?;
         self.len -= 1;
-        Some(self.room[self.len])
+        Some(top)
     }
 }
