@@ -1,4 +1,3 @@
 pub mod Counting
 pub mod Leaving
 pub mod Passing
-pub mod Returned

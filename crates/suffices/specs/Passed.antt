@@ -1,5 +1,5 @@
 -- Items that go through a bucket of a shelf.
-use Rattle.std.specs.Prelude.{ℕ, ◌+◌, ◌<◌, ◌≤◌, cond, List, [], ◌∷◌, length, Some, None, Option, ◌==◌, slice_index}
+use Rattle.std.specs.Prelude.{◌≡◌, ℕ, ◌+◌, ◌<◌, ◌≤◌, cond, List, [], ◌∷◌, length, Some, None, Option, ◌==◌, slice_index}
 use Rattle.shelf.specs.Holds.{Holds}
 
 -- how often x occurs in a list; two lists in which every x occurs equally often are the same but for the order
@@ -23,3 +23,7 @@ pub record MayPass (h : Holds) (b : ℕ) (l : List ℕ) : Type 0 where
   pub exist : (k : ℕ) → k < length l → slice_index l k < h.items
   pub once : (x : ℕ) → times x l ≤ 1
   pub few : length l ≤ 65535
+
+-- the shelf has as many items and buckets as before
+abbrev pub SameSize : Holds → Holds → Type 0
+SameSize h m = (m.items ≡ h.items) × (m.buckets ≡ h.buckets)

@@ -2,13 +2,7 @@ ghost use Rattle.std.specs.Prelude.{◌≡◌, ◌<◌, length, MatchOption, sli
 ghost use Rattle.stack.specs.Stacked.{downward};
 
 use stack::Stack;
-
-/// A node and a number, as a walk notes them.
-#[derive(Clone, Copy)]
-pub struct Frame {
-    pub node: u32,
-    pub began: u64,
-}
+pub use walk::frame::Frame;
 
 /// Pushes a frame onto a stack over one lent slice, and its node onto one over another. Both slices come back with what was pushed.
 pub fn note(frames: &mut [Frame], nodes: &mut [u32], f: Frame)
@@ -21,10 +15,10 @@ pub fn note(frames: &mut [Frame], nodes: &mut [u32], f: Frame)
     list.push(f.node);
 }
 
-/// Pushes a frame onto a stack and pops one: the same frame, and the stack holds what it held. None exactly if the stack is full.
-pub fn there_and_back(frames: &mut Stack<'_, Frame>, f: Frame) -> Option<Frame>
-    ensures same { downward frames.new.room.now frames.new.len ≡ downward frames.old.room.now frames.old.len }
-    ensures frame { MatchOption result (frames.old.len ≡ length frames.old.room.now) (λ g. g ≡ f) }
+/// Pushes an element onto a stack and pops one: the same element, and the stack holds what it held. None exactly if the stack is full.
+pub fn there_and_back<T: Copy>(stack: &mut Stack<'_, T>, x: T) -> Option<T>
+    ensures same { downward stack.new.room.now stack.new.len ≡ downward stack.old.room.now stack.old.len }
+    ensures element { MatchOption result (stack.old.len ≡ length stack.old.room.now) (λ y. y ≡ x) }
 {
-    if frames.push(f) { frames.pop() } else { None }
+    if stack.push(x) { stack.pop() } else { None }
 }

@@ -1,9 +1,15 @@
-use Rattle.std.proofs.Common.{◌≡◌, ℕ, ◌<◌, ◌≤◌, get_or, Some, None, vec_items}
-use Rattle.keeper.specs.Keeps.{delay_at}
+use Rattle.std.proofs.Common.{◌≡◌, ◌≤◌, length, drop}
+use Rattle.suffices.proofs.Leaving.{Filling}
 use Rattle.suffices.proofs.others.fill.Given as goal
 
-abbrev pub invariant-loop-p : goal.invariant-loop-p
-invariant-loop-p g l =
-    ((g.K.Keeper.meaning l.keeper).places ≡ (g.K.Keeper.meaning l.initial.keeper).places)
-    × ((q : ℕ) → q < l.p → delay_at (g.K.Keeper.meaning l.keeper) q ≡ Some (get_or (vec_items l.delays) q 0))
-    × ((q : ℕ) → l.p ≤ q → delay_at (g.K.Keeper.meaning l.keeper) q ≡ None)
+abbrev pub invariant-loop-place : goal.invariant-loop-place
+invariant-loop-place g l =
+    let k = g.K.Keeper.meaning l.keeper in
+    let p = l.place-iterator.a.start in
+    record {
+      end : l.place-iterator.a.end ≡ k.places;
+      left : l.place-iterator.b.rest.now ≡ drop p l.delays;
+      low : p ≤ k.places;
+      listed : p ≤ length l.delays;
+      filling : Filling (g.K.Keeper.meaning l.fn.keeper) k l.delays p;
+    }
