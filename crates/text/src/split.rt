@@ -1,7 +1,7 @@
 ghost use Rattle.std.specs.Prelude.{◌≡◌, ◌≤◌, true, false, length, ◌≢◌};
 ghost use Rattle.text.specs.Split.{stop_byte, Ends};
 
-use word::byte::{Kind, kind_of};
+use word::byte::Kind;
 
 /// Which byte ends a piece: a word ends at a separator, a line at a line feed.
 #[derive(Clone, Copy)]
@@ -28,7 +28,7 @@ pub(crate) fn is_stop(byte: u8, stop: Stop) -> bool
     ensures yes { result ≡ true → byte ≡ stop_byte stop }
     ensures no { result ≡ false → byte ≢ stop_byte stop }
 {
-    match (kind_of(byte), stop) {
+    match (Kind::from(byte), stop) {
         (Kind::Separator, Stop::AtSeparator) => true,
         (Kind::LineFeed, Stop::AtLineFeed) => true,
         _ => false,

@@ -1,8 +1,6 @@
 ghost use Rattle.std.specs.Prelude.{◌≡◌, ℕ, ◌<◌, [], length, MatchOption, slice_index_or};
 ghost use Rattle.text.specs.Tables.{names, width, Named};
 
-use word::state::same;
-
 /// The tables of a sheet.
 #[derive(Clone, Copy)]
 pub enum Table {
@@ -26,30 +24,13 @@ pub(crate) fn column_count(table: Table) -> usize
 pub(crate) fn column_named(table: Table, word: &[u8]) -> Option<usize>
     ensures { MatchOption result (Named table word.now → ⊥) (λ i. (i < width table) × (slice_index_or (names table) i [] ≡ word.now)) }
 {
-    match table {
-        Table::Book => {
-            if same(word, b"book") {
-                return Some(0);
-            }
-            if same(word, b"stations") {
-                return Some(1);
-            }
-            None
-        }
-        Table::Links => {
-            if same(word, b"from") {
-                return Some(0);
-            }
-            if same(word, b"to") {
-                return Some(1);
-            }
-            if same(word, b"ns") {
-                return Some(2);
-            }
-            if same(word, b"state") {
-                return Some(3);
-            }
-            None
-        }
+    match (table, word) {
+        (Table::Book, b"book") => Some(0),
+        (Table::Book, b"stations") => Some(1),
+        (Table::Links, b"from") => Some(0),
+        (Table::Links, b"to") => Some(1),
+        (Table::Links, b"ns") => Some(2),
+        (Table::Links, b"state") => Some(3),
+        _ => None,
     }
 }

@@ -7,7 +7,7 @@ use super::names::check_count;
 use super::words::nth_word;
 use word::fault::{Cause, Fault, WordFault};
 use word::numeral::number;
-use word::state::{State, state_of};
+use word::state::State;
 
 /// The values of a line by place: its numbers, and its state, if it has one.
 #[derive(Clone, Copy)]
@@ -22,7 +22,7 @@ fn read_word(word: &[u8], j: usize, state_at: usize, values: &mut Values) -> Res
     ensures { MatchResult result (λ _. Stored state_at j word.now values.old values.new) (λ fault. WrongWord state_at j word.now fault) }
 {
     if j == state_at {
-        values.state = state_of(word)?;
+        values.state = State::try_from(word)?;
     } else {
         values.numbers[j] = number(word)?;
     }

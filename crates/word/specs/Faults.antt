@@ -1,5 +1,5 @@
 -- The faults of a sheet: for each cause its number, its layer and how the layer is spelled.
-use Rattle.std.specs.Prelude.{ℕ, List, codes}
+use Rattle.std.specs.Prelude.{ℕ, List, ◌++◌, codes, decimal}
 use Rattle.network.specs.Refusals.{shown}
 use Rattle.word.specs.declared.fault.Cause.{Cause}
 use Rattle.word.specs.declared.fault.Cause.TheVariants.{InWord, InLine, InTable, TextTooLong, InBook}
@@ -7,6 +7,7 @@ use Rattle.word.specs.declared.fault.WordFault.TheVariants.{Empty, NotANumber, T
 use Rattle.word.specs.declared.fault.LineFault.TheVariants.{WordCount, BadName}
 use Rattle.word.specs.declared.fault.TableFault.TheVariants.{LineDue, TooManyLines}
 use Rattle.word.specs.declared.fault.BookFault.TheVariants as book
+use Rattle.word.specs.declared.fault.Fault.{Fault}
 use Rattle.word.specs.declared.fault.Layer.{Layer}
 use Rattle.word.specs.declared.fault.Layer.TheVariants as layer
 
@@ -36,3 +37,8 @@ spelled layer.Line = codes "line"
 spelled layer.Table = codes "table"
 spelled layer.Text = codes "text"
 spelled layer.Book = codes "book"
+
+-- how a fault is written: number, layer, line and column, with `;` between them
+abbrev pub fault_text : Fault → List ℕ
+fault_text f =
+    decimal (number_of f.cause) ++ (codes ";" ++ (spelled (layer_of f.cause) ++ (codes ";" ++ (decimal f.line ++ (codes ";" ++ decimal f.column)))))

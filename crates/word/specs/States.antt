@@ -1,5 +1,5 @@
 -- The state of a link as a word spells it.
-use Rattle.std.specs.Prelude.{◌≡◌, ℕ, List, [], codes, ◌≢◌}
+use Rattle.std.specs.Prelude.{◌≡◌, ℕ, List, [], codes, Result, MatchResult, ◌≢◌}
 use Rattle.word.specs.declared.state.State.{State}
 use Rattle.word.specs.declared.state.State.TheVariants.{In, Off}
 use Rattle.word.specs.declared.fault.WordFault.{WordFault}
@@ -15,3 +15,7 @@ StateFault w Empty = w ≡ []
 StateFault w NotANumber = ⊥
 StateFault w TooLarge = ⊥
 StateFault w BadState = (w ≢ []) × ((s : State) → w ≢ spelled_state s)
+
+-- what a word is read as where a state is due
+abbrev pub ReadsState : List ℕ → Result State WordFault → Type 0
+ReadsState w result = MatchResult result (λ s. w ≡ spelled_state s) (λ e. StateFault w e)

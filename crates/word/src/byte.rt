@@ -1,7 +1,7 @@
 ghost use Rattle.word.specs.Bytes.{IsKind};
 
 /// What a byte is to the reader of a sheet.
-#[derive(Clone, Copy)]
+#[derive(Clone, Copy, Debug, PartialEq, Eq)]
 pub enum Kind {
     /// `;`, between two words
     Separator,
@@ -16,14 +16,16 @@ pub enum Kind {
 }
 
 /// The kind of a byte.
-pub fn kind_of(byte: u8) -> Kind
-    ensures { IsKind byte result }
-{
-    match byte {
-        b';' => Kind::Separator,
-        b'\n' => Kind::LineFeed,
-        b'0'..=b'9' => Kind::Digit(byte - b'0'),
-        b'.' => Kind::Point,
-        _ => Kind::Other,
+impl From<u8> for Kind {
+    ghost from_gives = { IsKind };
+
+    fn from(byte: u8) -> Kind {
+        match byte {
+            b';' => Kind::Separator,
+            b'\n' => Kind::LineFeed,
+            b'0'..=b'9' => Kind::Digit(byte - b'0'),
+            b'.' => Kind::Point,
+            _ => Kind::Other,
+        }
     }
 }

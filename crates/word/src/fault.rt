@@ -1,10 +1,12 @@
-ghost use Rattle.std.specs.Prelude.{◌≡◌};
-ghost use Rattle.word.specs.Faults.{number_of, layer_of, spelled};
+ghost use Rattle.std.specs.Prelude.{◌≡◌, Some};
+ghost use Rattle.word.specs.declared.fault.Cause.TheVariants.{InWord, InLine, InTable, InBook};
+ghost use Rattle.word.specs.Faults.{number_of, layer_of, spelled, fault_text};
 
 use network::refusal::RowRefusal;
+use std::fmt;
 
 /// What can be wrong with one word.
-#[derive(Clone, Copy)]
+#[derive(Clone, Copy, Debug, PartialEq, Eq)]
 pub enum WordFault {
     /// it has no byte
     Empty,
@@ -17,7 +19,7 @@ pub enum WordFault {
 }
 
 /// What can be wrong with a line as a whole.
-#[derive(Clone, Copy)]
+#[derive(Clone, Copy, Debug, PartialEq, Eq)]
 pub enum LineFault {
     /// it has more words, or fewer, than the table has columns
     WordCount,
@@ -26,7 +28,7 @@ pub enum LineFault {
 }
 
 /// What can be wrong with the lines of a table.
-#[derive(Clone, Copy)]
+#[derive(Clone, Copy, Debug, PartialEq, Eq)]
 pub enum TableFault {
     /// an empty line, or the end of the text, where another line is due
     LineDue,
@@ -35,7 +37,7 @@ pub enum TableFault {
 }
 
 /// What the book refuses in a sheet that is well written.
-#[derive(Clone, Copy)]
+#[derive(Clone, Copy, Debug, PartialEq, Eq)]
 pub enum BookFault {
     /// there are no stations, or more than 512
     Stations,
@@ -44,7 +46,7 @@ pub enum BookFault {
 }
 
 /// Why a sheet is refused.
-#[derive(Clone, Copy)]
+#[derive(Clone, Copy, Debug, PartialEq, Eq)]
 pub enum Cause {
     InWord(WordFault),
     InLine(LineFault),
@@ -55,7 +57,7 @@ pub enum Cause {
 }
 
 /// The layer that found a fault.
-#[derive(Clone, Copy)]
+#[derive(Clone, Copy, Debug, PartialEq, Eq)]
 pub enum Layer {
     Word,
     Line,
@@ -65,15 +67,59 @@ pub enum Layer {
 }
 
 /// A fault, with its line and column, both counted from 1; a text that is too long has line 0 and column 0.
-#[derive(Clone, Copy)]
+#[derive(Clone, Copy, Debug, PartialEq, Eq)]
 pub struct Fault {
     pub cause: Cause,
     pub line: u32,
     pub column: u32,
 }
 
+impl From<WordFault> for Cause {
+    ghost from_gives = { λ fault cause. cause ≡ InWord fault };
+
+    fn from(fault: WordFault) -> Cause {
+        Cause::InWord(fault)
+    }
+}
+
+impl From<LineFault> for Cause {
+    ghost from_gives = { λ fault cause. cause ≡ InLine fault };
+
+    fn from(fault: LineFault) -> Cause {
+        Cause::InLine(fault)
+    }
+}
+
+impl From<TableFault> for Cause {
+    ghost from_gives = { λ fault cause. cause ≡ InTable fault };
+
+    fn from(fault: TableFault) -> Cause {
+        Cause::InTable(fault)
+    }
+}
+
+impl From<BookFault> for Cause {
+    ghost from_gives = { λ fault cause. cause ≡ InBook fault };
+
+    fn from(fault: BookFault) -> Cause {
+        Cause::InBook(fault)
+    }
+}
+
 impl Cause {
+    /// The fault that has this cause at a line and a column.
+    pub fn at(self, line: u32, column: u32) -> Fault
+        ensures { (result.cause ≡ self) × (result.line ≡ line) × (result.column ≡ column) }
+    {
+        Fault {
+            cause: self,
+            line,
+            column,
+        }
+    }
+
     /// The number that stands for the cause.
+    // Kept: the numbers of the table are no discriminants that `as` could read, since a cause carries data.
     pub fn number(self) -> u8
         ensures { result ≡ number_of self }
     {
@@ -118,5 +164,26 @@ impl Layer {
             Layer::Text => "text",
             Layer::Book => "book",
         }
+    }
+}
+
+impl fmt::Display for Layer {
+    ghost output = { λ layer. Some (spelled layer) };
+
+    fn fmt<W: fmt::Write>(&self, f: &mut fmt::Formatter<W>) -> fmt::Result {
+        f.write_str(self.spelling())
+    }
+}
+
+/// A fault is written as the number and the layer of its cause, its line and its column, with `;` between them.
+impl fmt::Display for Fault {
+    ghost output = { λ fault. Some (fault_text fault) };
+
+    fn fmt<W: fmt::Write>(&self, f: &mut fmt::Formatter<W>) -> fmt::Result {
+        let number = self.cause.number();
+        let layer = self.cause.layer();
+        let line = self.line;
+        let column = self.column;
+        write!(f, "{number};{layer};{line};{column}")
     }
 }
