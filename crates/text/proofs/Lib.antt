@@ -3,3 +3,5 @@ pub mod Naming
 pub mod One
 pub mod Pieces
 pub mod Rowing
+pub mod Shown
+pub mod Reading

@@ -1,15 +1,55 @@
 -- Where the next piece begins, for words in a line and for lines in a text.
-use Rattle.std.proofs.Common.{◌≡◌, ℕ, zero, suc, ◌+◌, ◌-◌, ◌<◌, ◌≤◌, min, Bool, true, false, cond, eqb, List, [], ◌∷◌, ◌++◌, length, get_or, drop, sym, refl, ap, ◌∙◌, arith, length-drop, take-append-drop, eq-eqb, ne_eqb}
+use Rattle.std.proofs.Common.{◌≡◌, ℕ, zero, suc, ◌+◌, ◌-◌, ◌<◌, ◌≤◌, min, Bool, true, false, cond, eqb, List, [], ◌∷◌, ◌++◌, length, get_or, drop, sym, refl, ap, ◌∙◌, arith, length-drop, take-append-drop, eq-eqb, ne_eqb, eqb-true, Some, None}
 use native.Mathlib.Decide.{dec_lt}
-use Rattle.std.proofs.lemmas.List.{drop-drop, drop_more, append-nil, drop_all}
-use Rattle.std.proofs.lemmas.List.Edits.{length-between}
-use Rattle.std.specs.List.{between}
+use Rattle.std.proofs.lemmas.List.{get_or-drop, drop-drop, drop_more, append-nil, drop_all}
+use Rattle.std.proofs.lemmas.List.Edits.{length-between, get_or-between}
+use Rattle.std.proofs.lemmas.List.Sums.{prefix_len-le-length, fails_before_first, passes_at_first}
+use Rattle.std.proofs.lemmas.Bool.{eqb-false}
+use Rattle.std.proofs.lemmas.List.Recursion.{is_count_by}
+use Rattle.std.proofs.lemmas.Grind.{common_steps}
+use Rattle.std.proofs.Math.Bool.{not}
+use Rattle.std.specs.List.{between, count_by, position, position_or_len}
 use Rattle.word.specs.Bytes.{separator, line_feed}
 use Rattle.text.specs.Split.{Free, Ends, pieces, onto, words, lines, column_of, WordAt, LineAt}
 
-pub free_push : (stop : ℕ) (bs : List ℕ) (b : ℕ) → Free stop bs → (b ≡ stop → ⊥) → Free stop (bs ++ (b ∷ []))
-free_push stop [] b f n = (n, tt)
-free_push stop (x ∷ bs) b f n = (f.0, free_push stop bs b f.1 n)
+free_from : (stop : ℕ) (bs : List ℕ) → ((k : ℕ) → k < length bs → eqb (get_or bs k 0) stop ≡ false) → Free stop bs
+free_from stop [] h = tt
+free_from stop (b ∷ bs) h = (eqb-false b stop (h 0 (omega arith)), free_from stop bs (λ k l. h (suc k) (omega arith)))
+
+-- a piece ends where the first stop stands
+pub ends_first : (stop : ℕ) (bytes : List ℕ) (start e : ℕ) → start ≤ length bytes → e ≡ start + position_or_len (λ b. eqb b stop) (drop start bytes) → Ends stop bytes start e
+ends_first stop bytes start e l q =
+    let is_stop : ℕ → Bool = λ b. eqb b stop in
+    let rest = drop start bytes in
+    let n = position_or_len is_stop rest in
+    let most : n ≤ length rest = prefix_len-le-length (λ b. not (is_stop b)) rest in
+    let high : e ≤ length bytes = omega (arith, most, length-drop start bytes) in
+    record {
+      low = omega arith;
+      high = high;
+      free = free_from stop (between start e bytes) (λ k below.
+          let inside : start + k < e = omega (arith, length-between bytes start e high) in
+          rw (get_or-between, ← get_or-drop) (fails_before_first is_stop rest k 0 (omega arith)));
+      there = λ below.
+          let some : n < length rest = omega (arith, length-drop start bytes) in
+          rw (q, ← get_or-drop) (eqb-true (get_or rest n 0) stop (passes_at_first is_stop rest 0 some));
+    }
+
+-- the same as a search from the left tells it
+pub ends_found : (stop : ℕ) (bytes : List ℕ) (start n : ℕ) → start ≤ length bytes → position (λ b. eqb b stop) (drop start bytes) ≡ Some n → Ends stop bytes start (start + n)
+ends_found stop bytes start n l e =
+    let is_stop : ℕ → Bool = λ b. eqb b stop in
+    let rest = drop start bytes in
+    let at : position_or_len is_stop rest ≡ n = grind (arith, common_steps) in
+    ends_first stop bytes start (start + n) l (ap (λ (k : ℕ). start + k) (sym at))
+
+pub ends_missing : (stop : ℕ) (bytes : List ℕ) (start : ℕ) → start ≤ length bytes → position (λ b. eqb b stop) (drop start bytes) ≡ None → Ends stop bytes start (length bytes)
+ends_missing stop bytes start l e =
+    let is_stop : ℕ → Bool = λ b. eqb b stop in
+    let rest = drop start bytes in
+    let most : position_or_len is_stop rest ≤ length rest = prefix_len-le-length (λ b. not (is_stop b)) rest in
+    let all : length rest ≤ position_or_len is_stop rest = grind (arith, common_steps) in
+    ends_first stop bytes start (length bytes) l (omega (arith, length-drop start bytes))
 
 -- up to a stop, then the stop: a piece, and the pieces after it
 pub pieces_cut : (stop : ℕ) (end : List (List ℕ)) (s t : List ℕ) → Free stop s → pieces stop end (s ++ (stop ∷ t)) ≡ s ∷ pieces stop end t
@@ -116,18 +156,18 @@ words_some (b ∷ bs) = go (eqb b separator) (words_some bs)
     go true h = omega arith
     go false h = omega (arith, onto_length b (words bs) h)
 
--- how many words one more byte at the front makes
-pub words_at_stop : (line : List ℕ) (i : ℕ) → i < length line → get_or line i 0 ≡ separator → length (words (drop i line)) ≡ suc (length (words (drop (i + 1) line)))
-words_at_stop line i l e =
-    let cut = drop_more line i 0 l in
-    let t = eq-eqb (get_or line i 0) separator e in
-    rw (cut, t)
-
-pub words_at_other : (line : List ℕ) (i : ℕ) → i < length line → (get_or line i 0 ≡ separator → ⊥) → length (words (drop i line)) ≡ length (words (drop (i + 1) line))
-words_at_other line i l n =
-    let cut = drop_more line i 0 l in
-    let t = ne_eqb (get_or line i 0) separator n in
-    rw (cut, t) (onto_length (get_or line i 0) (words (drop (i + 1) line)) (words_some (drop (i + 1) line)))
+-- a line has one word more than it has separators
+pub words_count : (line : List ℕ) → length (words line) ≡ count_by (λ b. eqb b separator) line + 1
+words_count line =
+    let counted = is_count_by (λ (bs : List ℕ). length (words bs) - 1) (λ b. eqb b separator) refl step line in
+    omega (arith, counted, words_some line)
+  where
+    step : (b : ℕ) (bs : List ℕ) → length (words (b ∷ bs)) - 1 ≡ cond (eqb b separator) (1 + (length (words bs) - 1)) (length (words bs) - 1)
+    step b bs = go (eqb b separator) (words_some bs)
+      where
+        go : (t : Bool) → 0 < length (words bs) → length (cond t ([] ∷ words bs) (onto b (words bs))) - 1 ≡ cond t (1 + (length (words bs) - 1)) (length (words bs) - 1)
+        go true h = omega arith
+        go false h = omega (arith, onto_length b (words bs) h)
 
 pub line_first : (text : List ℕ) → LineAt text 0 0
 line_first text = record { within = omega arith; few = omega arith; listed = omega arith; left = refl }

@@ -1,7 +1,6 @@
 -- Lines that are due at their place in a sheet.
 use Rattle.std.specs.Prelude.{◌≡◌, ℕ, ◌+◌, ◌<◌, ◌≤◌, List, [], length, slice_index_or}
-use Rattle.text.specs.Split.{lines, LineAt}
-use Rattle.text.specs.declared.line.Cursor.{Cursor}
+use Rattle.text.specs.Split.{lines}
 use Rattle.word.specs.declared.fault.Fault.{Fault}
 use Rattle.word.specs.declared.fault.Cause.{Cause}
 use Rattle.word.specs.declared.fault.Cause.TheVariants.{InTable}
@@ -20,11 +19,6 @@ pub record Stands (text : List ℕ) (i : ℕ) : Type 0 where
 pub record Empty (text : List ℕ) (i : ℕ) : Type 0 where
   pub listed : i < length (lines text)
   pub nothing : line text i ≡ []
-
--- the cursor lies one line further
-pub record Moved (text : List ℕ) (was now : Cursor) : Type 0 where
-  pub line : now.line ≡ was.line + 1
-  pub at : LineAt text now.line now.start
 
 -- the fault of the line i where a line is due that is not empty: the text ends, or the line is empty, or it is wrong
 pub data DueFault (text : List ℕ) (i : ℕ) (wrong : List ℕ → Cause → ℕ → Type 0) (cause : Cause) (column : ℕ) : Type 0 where

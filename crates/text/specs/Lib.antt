@@ -1,4 +1,5 @@
 pub mod Columns
+pub mod Cursors
 pub mod Due
 pub mod Laws
 pub mod Lines

@@ -1,5 +1,5 @@
 -- What a sheet of two tables spells, and where it is first at fault.
-use Rattle.std.specs.Prelude.{◌≡◌, ℕ, ◌+◌, ◌<◌, ◌≤◌, min, List, [], length, Some, None, Option, ◌≢◌, slice_index, slice_index_or}
+use Rattle.std.specs.Prelude.{◌≡◌, ℕ, ◌+◌, ◌<◌, ◌≤◌, min, List, [], length, Result, MatchResult, ⊤, ◌≢◌, slice_index, slice_index_or}
 use Rattle.text.specs.Split.{lines, words}
 use Rattle.word.specs.Numbers.{ReadsNumber}
 use Rattle.word.specs.States.{spelled_state}
@@ -98,6 +98,5 @@ pub record RowsRead (text places : List ℕ) (was now : List SheetLink) (count :
   pub kept : (k : ℕ) → count ≤ k → slice_index_or now k no_link ≡ slice_index_or was k no_link
 
 -- the lines of links end with the text, or at a fault of the line after those that were read
-abbrev pub RowsEnd : List ℕ → List ℕ → List SheetLink → ℕ → Option Fault → Type 0
-RowsEnd text places was count None = length (lines text) ≡ 4 + count
-RowsEnd text places was count (Some f) = AtLine (4 + count) f (RowFault text places (room was ≤ count) (4 + count))
+abbrev pub RowsEnd : List ℕ → List ℕ → List SheetLink → ℕ → Result ⊤ Fault → Type 0
+RowsEnd text places was count r = MatchResult r (λ _. length (lines text) ≡ 4 + count) (λ f. AtLine (4 + count) f (RowFault text places (room was ≤ count) (4 + count)))

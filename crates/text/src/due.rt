@@ -1,88 +1,73 @@
-ghost use Rattle.std.specs.Prelude.{◌≡◌, ℕ, ◌+◌, ◌<◌, ◌≤◌, [], length, MatchResult};
-ghost use Rattle.text.specs.Split.{lines, words, LineAt};
-ghost use Rattle.text.specs.Tables.{width};
+ghost use Rattle.std.specs.Prelude.{◌≡◌, ◌+◌, ◌≤◌, length, MatchOption, MatchResult};
+ghost use Rattle.text.specs.Split.{lines, words};
 ghost use Rattle.text.specs.Columns.{Ordered, NamesFault};
 ghost use Rattle.text.specs.Values.{ValuesRead, ValuesFault};
-ghost use Rattle.text.specs.Due.{line as line_of, Stands, Empty, Moved, DueFault, DividerFault, Never, AtLine};
+ghost use Rattle.text.specs.Due.{Empty, DividerFault, Never, AtLine};
+ghost use Rattle.text.specs.Tables.{width, state_at};
+ghost use Rattle.text.specs.Cursors.{text_of, next, IsNext, NextStands, NoneDue, NextFault, Moved};
 
-use super::line::{Cursor, Line, Role, next_line};
-use super::names::{Places, read_names};
+use super::content::Content;
+use super::cursor::Cursor;
+use super::line::{Line, Role};
+use super::names::Places;
 use super::table::Table;
-use super::values::{Values, read_values};
+use super::values::Values;
 use word::fault::{Cause, Fault, TableFault};
 
-/// The bytes of the next line, which must not be empty.
-fn due_line<'a>(text: &'a [u8], cursor: &mut Cursor, role: Role) -> Result<&'a [u8], Fault>
-    requires short { length text.now ≤ 65536 }
-    requires at { LineAt text.now cursor.old.line cursor.old.start }
-    ensures { MatchResult result (λ bytes. Stands text.now cursor.old.line × (bytes.now ≡ line_of text.now cursor.old.line) × Moved text.now cursor.old cursor.new) (λ f. AtLine cursor.old.line f (DueFault text.now cursor.old.line Never)) }
-{
-    let last = cursor.line;
-    match next_line(text, cursor, role) {
-        Some(Line::Names { bytes, .. }) => Ok(bytes),
-        Some(Line::Values { bytes, .. }) => Ok(bytes),
-        Some(Line::Divider { line, column, .. }) => Err(Fault {
-            cause: Cause::InTable(TableFault::LineDue),
-            line,
-            column,
-        }),
-        None => Err(Fault {
-            cause: Cause::InTable(TableFault::LineDue),
-            line: last + 1,
-            column: 1,
-        }),
+impl<'a> Cursor<'a> {
+    /// The next line, if the text has another: it must not be empty.
+    pub(crate) fn next_content(&mut self, role: Role) -> Option<Result<Content<'a>, Fault>>
+        ensures { MatchOption result (length (lines (text_of self.old)) ≤ self.old.line) (λ o. MatchResult o (λ content. IsNext self.old content × Moved self.old self.new) (λ f. NoneDue self.old f)) }
+    {
+        match self.next_line(role)? {
+            Line::Names { bytes, line, .. } | Line::Values { bytes, line, .. } => Some(Ok(
+                Content {
+                    bytes,
+                    number: line,
+                },
+            )),
+            Line::Divider { line, column, .. } => Some(Err(Cause::InTable(TableFault::LineDue).at(
+                line, column,
+            ))),
+        }
     }
-}
 
-/// Reads the next line as the names of a table.
-pub(crate) fn names_line(text: &[u8], cursor: &mut Cursor, table: Table) -> Result<Places, Fault>
-    requires short { length text.now ≤ 65536 }
-    requires at { LineAt text.now cursor.old.line cursor.old.start }
-    ensures { MatchResult result (λ places. Stands text.now cursor.old.line × Ordered table (words (line_of text.now cursor.old.line)) places × Moved text.now cursor.old cursor.new) (λ f. AtLine cursor.old.line f (DueFault text.now cursor.old.line (NamesFault table))) }
-{
-    let bytes = due_line(text, cursor, Role::AsNames)?;
-    read_names(bytes, cursor.line, table)
-}
+    /// The next line, which must be there and must not be empty.
+    fn due_line(&mut self, role: Role) -> Result<Content<'a>, Fault>
+        ensures { MatchResult result (λ content. IsNext self.old content × Moved self.old self.new) (λ f. NextFault self.old Never f) }
+    {
+        let past = self.line + 1;
+        let Some(found) = self.next_content(role) else {
+            return Err(Cause::InTable(TableFault::LineDue).at(past, 1));
+        };
+        found
+    }
 
-/// Reads the next line as values.
-pub(crate) fn values_line(
-    text: &[u8],
-    cursor: &mut Cursor,
-    columns: usize,
-    state_at: usize,
-) -> Result<Values, Fault>
-    requires short { length text.now ≤ 65536 }
-    requires at { LineAt text.now cursor.old.line cursor.old.start }
-    requires few { columns ≤ 4 }
-    ensures { MatchResult result (λ v. Stands text.now cursor.old.line × ValuesRead columns state_at (words (line_of text.now cursor.old.line)) v × Moved text.now cursor.old cursor.new) (λ f. AtLine cursor.old.line f (DueFault text.now cursor.old.line (ValuesFault columns state_at))) }
-{
-    let bytes = due_line(text, cursor, Role::AsValues)?;
-    read_values(bytes, cursor.line, columns, state_at)
-}
+    /// Reads the next line as the names of a table.
+    pub(crate) fn names_line(&mut self, table: Table) -> Result<Places, Fault>
+        ensures { MatchResult result (λ places. NextStands self.old × Ordered table (words (next self.old)) places × Moved self.old self.new) (λ f. NextFault self.old (NamesFault table) f) }
+    {
+        self.due_line(Role::AsNames)?.read_names(table)
+    }
 
-/// Reads the next line as the divider between two tables.
-pub(crate) fn divider_line(text: &[u8], cursor: &mut Cursor) -> Result<(), Fault>
-    requires short { length text.now ≤ 65536 }
-    requires at { LineAt text.now cursor.old.line cursor.old.start }
-    ensures { MatchResult result (λ _. Empty text.now cursor.old.line × Moved text.now cursor.old cursor.new) (λ f. AtLine cursor.old.line f (DividerFault text.now cursor.old.line)) }
-{
-    let last = cursor.line;
-    match next_line(text, cursor, Role::AsValues) {
-        Some(Line::Divider { .. }) => Ok(()),
-        Some(Line::Names { line, column, .. }) => Err(Fault {
-            cause: Cause::InTable(TableFault::TooManyLines),
-            line,
-            column,
-        }),
-        Some(Line::Values { line, column, .. }) => Err(Fault {
-            cause: Cause::InTable(TableFault::TooManyLines),
-            line,
-            column,
-        }),
-        None => Err(Fault {
-            cause: Cause::InTable(TableFault::LineDue),
-            line: last + 1,
-            column: 1,
-        }),
+    /// Reads the next line as values under a table's names, which have these places.
+    pub(crate) fn values_line(&mut self, table: Table, places: Places) -> Result<Values, Fault>
+        ensures { MatchResult result (λ v. NextStands self.old × ValuesRead (width table) (state_at table places) (words (next self.old)) v × Moved self.old self.new) (λ f. NextFault self.old (ValuesFault (width table) (state_at table places)) f) }
+    {
+        self.due_line(Role::AsValues)?.read_values(table, places)
+    }
+
+    /// Reads the next line as the divider between two tables.
+    pub(crate) fn divider_line(&mut self) -> Result<(), Fault>
+        ensures { MatchResult result (λ _. Empty (text_of self.old) self.old.line × Moved self.old self.new) (λ f. AtLine self.old.line f (DividerFault (text_of self.old) self.old.line)) }
+    {
+        let past = self.line + 1;
+        match self.next_line(Role::AsValues) {
+            Some(Line::Divider { .. }) => Ok(()),
+            Some(Line::Names { line, column, .. } | Line::Values { line, column, .. }) => {
+                Err(Cause::InTable(TableFault::TooManyLines).at(line, column))
+            }
+            None => Err(Cause::InTable(TableFault::LineDue).at(past, 1)),
+        }
     }
 }

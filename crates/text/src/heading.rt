@@ -1,11 +1,10 @@
-ghost use Rattle.std.specs.Prelude.{◌≡◌, ℕ, ◌+◌, ◌<◌, ◌≤◌, [], length, MatchResult, slice_index};
-ghost use Rattle.text.specs.Split.{words, LineAt};
-ghost use Rattle.text.specs.Due.{AtLine};
+ghost use Rattle.std.specs.Prelude.{◌≡◌, ◌<◌, MatchResult, slice_index};
+ghost use Rattle.text.specs.Cursors.{text_of};
 ghost use Rattle.text.specs.Sheet.{BookTable, Headed, HeadingFault};
 
-use super::due::{divider_line, names_line, values_line};
-use super::line::Cursor;
+use super::cursor::Cursor;
 use super::names::Places;
+use super::rows::LinkPlaces;
 use super::sheet::Head;
 use super::table::Table;
 use super::values::Values;
@@ -16,7 +15,7 @@ use word::fault::Fault;
 pub(crate) struct Heading {
     pub(crate) head: Head,
     pub(crate) book_places: Places,
-    pub(crate) link_places: Places,
+    pub(crate) link_places: LinkPlaces,
 }
 
 /// The head that the values of the first table spell, under names with these places.
@@ -30,31 +29,29 @@ fn head_of(values: Values, places: Places) -> Head
     }
 }
 
-/// Reads the first table, and gives also the places of its names.
-fn read_book(text: &[u8], cursor: &mut Cursor) -> Result<(Head, Places), Fault>
-    requires short { length text.now ≤ 65536 }
-    requires at { LineAt text.now cursor.old.line cursor.old.start }
-    requires first { cursor.old.line ≡ 0 }
-    ensures { MatchResult result (λ p. BookTable text.now p.1 p.0 × (cursor.new.line ≡ 2) × LineAt text.now cursor.new.line cursor.new.start) (λ f. HeadingFault text.now f) }
-{
-    let places = names_line(text, cursor, Table::Book)?;
-    let values = values_line(text, cursor, 2, 4)?;
-    Ok((head_of(values, places), places))
-}
+impl Cursor<'_> {
+    /// Reads the first table, and gives also the places of its names.
+    fn read_book(&mut self) -> Result<(Head, Places), Fault>
+        requires { self.old.line ≡ 0 }
+        ensures { MatchResult result (λ p. BookTable (text_of self.old) p.1 p.0 × (self.new.line ≡ 2) × (self.new.source ≡ self.old.source)) (λ f. HeadingFault (text_of self.old) f) }
+    {
+        let places = self.names_line(Table::Book)?;
+        let values = self.values_line(Table::Book, places)?;
+        Ok((head_of(values, places), places))
+    }
 
-/// Reads a sheet up to the names of its second table.
-pub(crate) fn read_heading(text: &[u8], cursor: &mut Cursor) -> Result<Heading, Fault>
-    requires short { length text.now ≤ 65536 }
-    requires at { LineAt text.now cursor.old.line cursor.old.start }
-    requires first { cursor.old.line ≡ 0 }
-    ensures { MatchResult result (λ h. Headed text.now h.book_places h.link_places h.head × (cursor.new.line ≡ 4) × LineAt text.now cursor.new.line cursor.new.start) (λ f. HeadingFault text.now f) }
-{
-    let (head, book_places) = read_book(text, cursor)?;
-    divider_line(text, cursor)?;
-    let link_places = names_line(text, cursor, Table::Links)?;
-    Ok(Heading {
-        head,
-        book_places,
-        link_places,
-    })
+    /// Reads a sheet up to the names of its second table.
+    pub(crate) fn read_heading(&mut self) -> Result<Heading, Fault>
+        requires { self.old.line ≡ 0 }
+        ensures { MatchResult result (λ h. Headed (text_of self.old) h.book_places h.link_places.places h.head × (self.new.line ≡ 4) × (self.new.source ≡ self.old.source)) (λ f. HeadingFault (text_of self.old) f) }
+    {
+        let (head, book_places) = self.read_book()?;
+        self.divider_line()?;
+        let places = self.names_line(Table::Links)?;
+        Ok(Heading {
+            head,
+            book_places,
+            link_places: LinkPlaces { places },
+        })
+    }
 }

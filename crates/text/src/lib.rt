@@ -2,6 +2,8 @@
 
 #![tactic(auto)]
 
+mod content;
+mod cursor;
 mod due;
 mod heading;
 pub mod laws;
@@ -11,6 +13,7 @@ mod opening;
 pub mod read;
 mod rows;
 pub mod sheet;
+mod source;
 mod split;
 mod table;
 mod values;

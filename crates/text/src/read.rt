@@ -1,51 +1,33 @@
-ghost use Rattle.std.specs.Prelude.{ℕ};
+ghost use Rattle.std.specs.Prelude.{◌≡◌};
 ghost use Rattle.text.specs.Read.{ReadAs};
 
-use super::heading::read_heading;
-use super::line::Cursor;
-use super::opening::check_book;
-use super::rows::read_rows;
-use super::sheet::{Reading, SheetLink};
-use word::fault::{Cause, Fault};
+use super::cursor::Cursor;
+use super::sheet::{Head, Reading, SheetLink};
+use super::source::Source;
+use word::fault::Fault;
 
 /// Reads the two tables of a sheet, the book's and the links', into the memory given. The links that were read stand at its start,
 /// also where a fault came after them, and the rest of it stays.
 pub fn read_sheet(text: &[u8], links: &mut [SheetLink]) -> Reading
     ensures { ReadAs text.now links.old links.new result }
 {
-    if text.len() > 65536 {
-        return Reading {
-            links: 0,
-            outcome: Err(Fault {
-                cause: Cause::TextTooLong,
-                line: 0,
-                column: 0,
-            }),
-        };
+    let mut count = 0;
+    let outcome = read_tables(text, links, &mut count);
+    Reading {
+        links: count,
+        outcome,
     }
-    let mut cursor = Cursor { start: 0, line: 0 };
-    let heading = match read_heading(text, &mut cursor) {
-        Ok(heading) => heading,
-        Err(fault) => return Reading {
-            links: 0,
-            outcome: Err(fault),
-        },
-    };
-    let rows = read_rows(text, &mut cursor, heading.link_places, links);
-    if let Some(fault) = rows.fault {
-        return Reading {
-            links: rows.count,
-            outcome: Err(fault),
-        };
-    }
-    match check_book(text, heading, links, rows.count) {
-        Ok(()) => Reading {
-            links: rows.count,
-            outcome: Ok(heading.head),
-        },
-        Err(fault) => Reading {
-            links: rows.count,
-            outcome: Err(fault),
-        },
-    }
+}
+
+/// Reads a sheet's tables, counts the links that were read, and checks what the book asks of them.
+fn read_tables(text: &[u8], links: &mut [SheetLink], count: &mut usize) -> Result<Head, Fault>
+    requires { count.old ≡ 0 }
+    ensures { ReadAs text.now links.old links.new (record { links = count.new; outcome = result }) }
+{
+    let source = Source::new(text)?;
+    let mut cursor = Cursor::new(source);
+    let heading = cursor.read_heading()?;
+    cursor.read_rows(heading.link_places, links, count)?;
+    source.check_book(heading, &links[..*count])?;
+    Ok(heading.head)
 }

@@ -1,107 +1,90 @@
-ghost use Rattle.std.specs.Prelude.{◌≡◌, ℕ, ◌+◌, ◌<◌, ◌≤◌, true, false, [], length, MatchOption, MatchResult, slice_index};
-ghost use Rattle.text.specs.Split.{lines, words, LineAt};
-ghost use Rattle.text.specs.Due.{line as line_of, Stands, AtLine, Moved};
-ghost use Rattle.text.specs.Sheet.{Placed, SpelledLink, WrongRow, RowFault, RowsRead, RowsEnd};
+ghost use Rattle.text.specs.Sheet.{Placed};
 
-use super::line::{Cursor, Line, Role, next_line};
+use super::content::Content;
+use super::cursor::Cursor;
+use super::line::Role;
 use super::names::Places;
 use super::sheet::SheetLink;
-use super::values::{Values, read_values};
+use super::table::Table;
+use super::values::Values;
 use network::row::Row;
-use word::fault::{Cause, Fault, TableFault};
+use word::fault::{Fault, TableFault};
 
-/// The link that the values of a line spell, under names with these places.
-fn link_of(values: Values, places: Places) -> SheetLink
-    requires { (slice_index places 0 < 4) × (slice_index places 1 < 4) × (slice_index places 2 < 4) }
-    ensures { (result.row.from ≡ slice_index values.numbers (slice_index places 0)) × (result.row.to ≡ slice_index values.numbers (slice_index places 1)) × (result.row.ns ≡ slice_index values.numbers (slice_index places 2)) × (result.state ≡ values.state) }
-{
-    let row = Row {
-        from: values.numbers[places[0]],
-        to: values.numbers[places[1]],
-        ns: values.numbers[places[2]],
-    };
-    SheetLink {
-        row,
-        state: values.state,
-    }
-}
-
-/// The link that a line spells, unless it is one line too many.
-fn read_row(bytes: &[u8], line: u32, places: Places, full: bool) -> Result<SheetLink, Fault>
-    requires short { length bytes.now ≤ 65536 }
-    requires placed { Placed places }
-    ensures { MatchResult result (λ link. (full ≡ false) × SpelledLink places (words bytes.now) link) (λ f. (f.line ≡ line) × WrongRow places (full ≡ true) bytes.now f.cause f.column) }
-{
-    if full {
-        return Err(Fault {
-            cause: Cause::InTable(TableFault::TooManyLines),
-            line,
-            column: 1,
-        });
-    }
-    let values = read_values(bytes, line, 4, places[3])?;
-    Ok(link_of(values, places))
-}
-
-/// The next line of links, if the text has another line: it must not be empty.
-fn next_row(
-    text: &[u8],
-    cursor: &mut Cursor,
-    places: Places,
-    full: bool,
-) -> Option<Result<SheetLink, Fault>>
-    requires short { length text.now ≤ 65536 }
-    requires at { LineAt text.now cursor.old.line cursor.old.start }
-    requires placed { Placed places }
-    ensures { MatchOption result (length (lines text.now) ≤ cursor.old.line) (λ o. MatchResult o
-        (λ link. Stands text.now cursor.old.line × (full ≡ false) × SpelledLink places (words (line_of text.now cursor.old.line)) link × Moved text.now cursor.old cursor.new)
-        (λ f. AtLine cursor.old.line f (RowFault text.now places (full ≡ true) cursor.old.line))) }
-{
-    match next_line(text, cursor, Role::AsValues)? {
-        Line::Divider { line, column, .. } => Some(Err(Fault {
-            cause: Cause::InTable(TableFault::LineDue),
-            line,
-            column,
-        })),
-        Line::Names { bytes, line, .. } => Some(read_row(bytes, line, places, full)),
-        Line::Values { bytes, line, .. } => Some(read_row(bytes, line, places, full)),
-    }
-}
-
-/// The lines of links that were read, and the fault that ended them.
+/// Which word of a line of links stands under each of the four names.
 #[derive(Clone, Copy)]
-pub struct RowsOutcome {
-    pub count: usize,
-    pub fault: Option<Fault>,
+pub(crate) struct LinkPlaces {
+    pub(crate) places: Places,
+    ghost placed: { Placed places },
 }
 
-/// Reads lines of links to the text's end, into the memory given.
-pub(crate) fn read_rows(
-    text: &[u8],
-    cursor: &mut Cursor,
-    places: Places,
-    links: &mut [SheetLink],
-) -> RowsOutcome
-    requires short { length text.now ≤ 65536 }
-    requires at { LineAt text.now cursor.old.line cursor.old.start }
-    requires fifth { cursor.old.line ≡ 4 }
-    requires placed { Placed places }
-    ensures read { RowsRead text.now places links.old links.new result.count }
-    ensures end { RowsEnd text.now places links.old result.count result.fault }
-{
-    let most = links.len().min(2048);
-    let mut count = 0;
-    while let Some(row) = next_row(text, cursor, places, count == most) {
-        match row {
-            Ok(link) => {
-                links[count] = link;
-                count += 1;
-            }
-            Err(fault) => return RowsOutcome {
-                count,
-                fault: Some(fault),
+impl LinkPlaces {
+    ghost use Rattle.std.specs.Prelude.{◌≡◌, true, false, MatchResult, slice_index};
+    ghost use Rattle.text.specs.Split.{words};
+    ghost use Rattle.text.specs.Sheet.{SpelledLink, WrongRow};
+
+    /// The link that the values of a line spell.
+    fn link_of(self, values: Values) -> SheetLink
+        ensures { (result.row.from ≡ slice_index values.numbers (slice_index self.places 0)) × (result.row.to ≡ slice_index values.numbers (slice_index self.places 1)) × (result.row.ns ≡ slice_index values.numbers (slice_index self.places 2)) × (result.state ≡ values.state) }
+    {
+        let [from, to, ns, _] = self.places;
+        SheetLink {
+            row: Row {
+                from: values.numbers[from],
+                to: values.numbers[to],
+                ns: values.numbers[ns],
             },
+            state: values.state,
         }
     }
-    RowsOutcome { count, fault: None }
+
+    /// The link that a line spells, unless it is one line too many.
+    fn read_row(self, line: &Content, full: bool) -> Result<SheetLink, Fault>
+        ensures { MatchResult result (λ link. (full ≡ false) × SpelledLink self.places (words line.now.bytes.now) link) (λ f. (f.line ≡ line.now.number) × WrongRow self.places (full ≡ true) line.now.bytes.now f.cause f.column) }
+    {
+        if full {
+            return Err(line.fault(TableFault::TooManyLines.into(), 1));
+        }
+        let values = line.read_values(Table::Links, self.places)?;
+        Ok(self.link_of(values))
+    }
+}
+
+impl Cursor<'_> {
+    ghost use Rattle.std.specs.Prelude.{◌≡◌, ◌≤◌, true, false, length, MatchOption, MatchResult};
+    ghost use Rattle.text.specs.Split.{lines, words};
+    ghost use Rattle.text.specs.Due.{AtLine};
+    ghost use Rattle.text.specs.Cursors.{text_of, next, NextStands, Moved};
+    ghost use Rattle.text.specs.Sheet.{SpelledLink, RowFault, RowsRead, RowsEnd};
+
+    /// The next line of links, if the text has another line: it must not be empty.
+    fn next_row(&mut self, places: LinkPlaces, full: bool) -> Option<Result<SheetLink, Fault>>
+        ensures { MatchOption result (length (lines (text_of self.old)) ≤ self.old.line) (λ o. MatchResult o
+            (λ link. NextStands self.old × (full ≡ false) × SpelledLink places.places (words (next self.old)) link × Moved self.old self.new)
+            (λ f. AtLine self.old.line f (RowFault (text_of self.old) places.places (full ≡ true) self.old.line))) }
+    {
+        match self.next_content(Role::AsValues)? {
+            Ok(line) => Some(places.read_row(&line, full)),
+            Err(fault) => Some(Err(fault)),
+        }
+    }
+
+    /// Reads lines of links to the text's end, into the memory given, and counts them.
+    pub(crate) fn read_rows(
+        &mut self,
+        places: LinkPlaces,
+        links: &mut [SheetLink],
+        count: &mut usize,
+    ) -> Result<(), Fault>
+        requires fifth { self.old.line ≡ 4 }
+        requires none { count.old ≡ 0 }
+        ensures read { RowsRead (text_of self.old) places.places links.old links.new count.new }
+        ensures end { RowsEnd (text_of self.old) places.places links.old count.new result }
+    {
+        let most = links.len().min(2048);
+        while let Some(row) = self.next_row(places, *count == most) {
+            links[*count] = row?;
+            *count += 1;
+        }
+        Ok(())
+    }
 }

@@ -1,13 +1,37 @@
-ghost use Rattle.std.specs.Prelude.{◌≡◌, ◌≤◌, true, false, length, ◌≢◌};
+ghost use Rattle.std.specs.Prelude.{◌≡◌, ◌≤◌, length, ◌==◌, count_by, position};
 ghost use Rattle.text.specs.Split.{stop_byte, Ends};
 
 use word::byte::Kind;
 
 /// Which byte ends a piece: a word ends at a separator, a line at a line feed.
-#[derive(Clone, Copy)]
+#[derive(Clone, Copy, Debug, PartialEq, Eq)]
 pub enum Stop {
     AtSeparator,
     AtLineFeed,
+}
+
+/// Whether the byte ends a piece.
+fn is_stop(byte: u8, stop: Stop) -> bool
+    ensures { result ≡ (byte == stop_byte stop) }
+{
+    matches!(
+        (Kind::from(byte), stop),
+        (Kind::Separator, Stop::AtSeparator) | (Kind::LineFeed, Stop::AtLineFeed)
+    )
+}
+
+/// The place of the first stop.
+fn first_stop(bytes: &[u8], stop: Stop) -> Option<usize>
+    ensures { result ≡ position (λ b. b == stop_byte stop) bytes.now }
+{
+    bytes.iter().position(|byte| is_stop(*byte, stop))
+}
+
+/// How many stops there are.
+pub(crate) fn count_stops(bytes: &[u8], stop: Stop) -> usize
+    ensures { result ≡ count_by (λ b. b == stop_byte stop) bytes.now }
+{
+    bytes.iter().filter(|byte| is_stop(**byte, stop)).count()
 }
 
 /// The place of the first stop from `start` on, or the end of the bytes.
@@ -15,22 +39,8 @@ pub(crate) fn piece_end(bytes: &[u8], start: usize, stop: Stop) -> usize
     requires { start ≤ length bytes.now }
     ensures { Ends (stop_byte stop) bytes.now start result }
 {
-    for i in start..bytes.len() {
-        if is_stop(bytes[i], stop) {
-            return i;
-        }
-    }
-    bytes.len()
-}
-
-/// Whether the byte ends a piece.
-pub(crate) fn is_stop(byte: u8, stop: Stop) -> bool
-    ensures yes { result ≡ true → byte ≡ stop_byte stop }
-    ensures no { result ≡ false → byte ≢ stop_byte stop }
-{
-    match (Kind::from(byte), stop) {
-        (Kind::Separator, Stop::AtSeparator) => true,
-        (Kind::LineFeed, Stop::AtLineFeed) => true,
-        _ => false,
+    match first_stop(&bytes[start..], stop) {
+        Some(long) => start + long,
+        None => bytes.len(),
     }
 }

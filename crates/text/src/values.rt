@@ -1,19 +1,33 @@
-ghost use Rattle.std.specs.Prelude.{◌≡◌, ℕ, ◌<◌, ◌≤◌, [], length, MatchResult};
+ghost use Rattle.std.specs.Prelude.{◌≡◌, ℕ, ◌<◌, MatchResult};
 ghost use Rattle.text.specs.Split.{words};
 ghost use Rattle.text.specs.Stored.{Stored};
+ghost use Rattle.text.specs.Tables.{width, state_at};
 ghost use Rattle.text.specs.Values.{WrongWord, ValuesRead, ValuesFault};
 
-use super::names::check_count;
-use super::words::nth_word;
-use word::fault::{Cause, Fault, WordFault};
+use super::content::Content;
+use super::names::Places;
+use super::table::Table;
+use word::fault::{Fault, WordFault};
 use word::numeral::number;
 use word::state::State;
 
 /// The values of a line by place: its numbers, and its state, if it has one.
-#[derive(Clone, Copy)]
+#[derive(Clone, Copy, Debug, Default, PartialEq, Eq)]
 pub struct Values {
     pub numbers: [u32; 4],
     pub state: State,
+}
+
+impl Table {
+    /// Where the state stands among the words of a line of values; past all of them where the table has none.
+    fn state_at(self, places: Places) -> usize
+        ensures { result ≡ state_at self places }
+    {
+        match self {
+            Table::Book => 4,
+            Table::Links => places[3],
+        }
+    }
 }
 
 /// Reads the word at the place `j` into the values.
@@ -29,32 +43,21 @@ fn read_word(word: &[u8], j: usize, state_at: usize, values: &mut Values) -> Res
     Ok(())
 }
 
-/// Reads a line of values: a state at the place `state_at`, if that is one of the columns, and numbers at all others. The first
-/// fault of the line is its count of words, or else its first word that spells no such value.
-pub(crate) fn read_values(
-    line: &[u8],
-    line_number: u32,
-    columns: usize,
-    state_at: usize,
-) -> Result<Values, Fault>
-    requires short { length line.now ≤ 65536 }
-    requires few { columns ≤ 4 }
-    ensures { MatchResult result (λ v. ValuesRead columns state_at (words line.now) v) (λ f. (f.line ≡ line_number) × ValuesFault columns state_at line.now f.cause f.column) }
-{
-    check_count(line, line_number, columns)?;
-    let mut values = Values {
-        numbers: [0; 4],
-        state: State::In,
-    };
-    for j in 0..columns {
-        let word = nth_word(line, j);
-        if let Err(fault) = read_word(word.bytes, j, state_at, &mut values) {
-            return Err(Fault {
-                cause: Cause::InWord(fault),
-                line: line_number,
-                column: word.column,
-            });
+impl Content<'_> {
+    /// Reads a line of values: a state at its place, if the table has one, and numbers at all others. The first fault of the line
+    /// is its count of words, or else its first word that spells no such value.
+    pub(crate) fn read_values(&self, table: Table, places: Places) -> Result<Values, Fault>
+        ensures { MatchResult result (λ v. ValuesRead (width table) (state_at table places) (words self.now.bytes.now) v) (λ f. (f.line ≡ self.now.number) × ValuesFault (width table) (state_at table places) self.now.bytes.now f.cause f.column) }
+    {
+        self.check_count(table.width())?;
+        let state_at = table.state_at(places);
+        let mut values = Values::default();
+        for j in 0..table.width() {
+            let word = self.word(j);
+            if let Err(fault) = read_word(word.bytes, j, state_at, &mut values) {
+                return Err(self.fault(fault.into(), word.column));
+            }
         }
+        Ok(values)
     }
-    Ok(values)
 }

@@ -1,5 +1,0 @@
-use Rattle.text.specs.Opening.{AllSound}
-use Rattle.text.proofs.opening.check_links.Given as goal
-
-abbrev pub invariant-loop-k : goal.invariant-loop-k
-invariant-loop-k l = AllSound l.stations l.links l.k
