@@ -1,7 +1,8 @@
 -- What the entries say of the links agrees with what the book holds, all along a history; so each entry is right.
-use Rattle.std.proofs.Common.{◌≡◌, ℕ, zero, suc, ◌<◌, Bool, true, false, cond, eqb, List, [], ◌∷◌, length, get_or, set, replicate, Ok, Err, sym, refl, ap, ◌∙◌, subst, arith, length-set, get_or-set_other, get_or-set_same, eq-eqb, ne_eqb}
+use Rattle.std.proofs.Common.{◌≡◌, ℕ, ◌<◌, Bool, true, false, cond, eqb, List, [], ◌∷◌, length, get_or, set, Ok, Err, sym, refl, ap, ◌∙◌, subst, arith, length-set, get_or-set_other, get_or-set_same, eq-eqb, ne_eqb}
 use native.Mathlib.Decide.{ℕ_discrete}
-use lib.ListN.{length-replicate}
+use Rattle.std.proofs.lemmas.List.{get_or-replicate, length-replicate}
+use Rattle.std.proofs.lemmas.Bool.{false_from_ne_true, true≢false}
 use Rattle.book.specs.declared.permit.Permit.{Permit}
 use Rattle.book.specs.declared.refusal.Refusal.TheVariants.{Stations, TooManyRows, BadRow, NoSuchLink, NotInService, MapStands, NoMap, NothingSettled, NoMemory}
 use Rattle.book.specs.declared.refusal.PermitRefusal.{PermitRefusal}
@@ -30,18 +31,6 @@ read_set l i k v h = go (ℕ_discrete k i)
         let t = ne_eqb k i n in
         rw t (get_or-set_other l i k v false n)
 
-all_read : (n k : ℕ) (v : Bool) → k < n → get_or (replicate n v) k false ≡ v
-all_read zero k v h = let z : ⊥ = omega arith in absurd z
-all_read (suc n) zero v h = refl
-all_read (suc n) (suc k) v h = all_read n k v (omega arith)
-
-not_true : (v : Bool) → (v ≡ true → ⊥) → v ≡ false
-not_true true n = absurd (n refl)
-not_true false n = refl
-
-clash : (v : Bool) → v ≡ true → v ≡ false → ⊥
-clash v p q = let z : ◌≡◌ {A = ℕ} 0 1 = cc in omega arith
-
 module _ {o : Opening} {es : List Entry} {b : Matter} (a : Agrees o es b) where
   many : links b ≡ length o.rows
   many = ap length a.rows
@@ -51,16 +40,16 @@ module _ {o : Opening} {es : List Entry} {b : Matter} (a : Agrees o es b) where
       let l : k < length o.rows = omega (arith, many, x.listed) in
       record {
         listed = l;
-        out = sym (a.in_as k l) ∙ not_true (get_or b.network.service k false) x.out;
-        back = sym (a.struck_as k l) ∙ not_true (get_or b.struck k false) x.back;
+        out = sym (a.in_as k l) ∙ false_from_ne_true (get_or b.network.service k false) x.out;
+        back = sym (a.struck_as k l) ∙ false_from_ne_true (get_or b.struck k false) x.back;
       }
 
   then_out : (k : ℕ) → OutThen o es k → Out b k
   then_out k x =
       record {
         listed = omega (arith, many, x.listed);
-        out = λ t. clash (get_or b.network.service k false) t (a.in_as k x.listed ∙ x.out);
-        back = λ t. clash (get_or b.struck k false) t (a.struck_as k x.listed ∙ x.back);
+        out = λ t. true≢false (sym t ∙ (a.in_as k x.listed ∙ x.out));
+        back = λ t. true≢false (sym t ∙ (a.struck_as k x.listed ∙ x.back));
       }
 
   good_then : (p : Permit) → Good b p → GoodThen o es p
@@ -82,7 +71,7 @@ module _ {o : Opening} {es : List Entry} {b : Matter} (a : Agrees o es b) where
   right (withdraw link (Err NoSuchLink)) b' d = omega (arith, many, d.0)
   right (withdraw link (Err NotInService)) b' d =
       let l : link < length o.rows = omega (arith, many, d.0.0) in
-      (l, sym (a.in_as link l) ∙ not_true (get_or b.network.service link false) d.0.1)
+      (l, sym (a.in_as link l) ∙ false_from_ne_true (get_or b.network.service link false) d.0.1)
   right (withdraw link (Err Stations)) b' d = d.0
   right (withdraw link (Err TooManyRows)) b' d = d.0
   right (withdraw link (Err (BadRow why))) b' d = d.0
@@ -168,8 +157,8 @@ begun o b b' d =
       rows = refl;
       serviced = length-replicate (length o.rows) true;
       struck = length-replicate (length o.rows) false;
-      in_as = λ k h. all_read (length o.rows) k true h;
-      struck_as = λ k h. all_read (length o.rows) k false h;
+      in_as = λ k h. get_or-replicate (length o.rows) k true false h;
+      struck_as = λ k h. get_or-replicate (length o.rows) k false false h;
     })
 
 agrees : {o : Opening} {es : List Entry} {b : Matter} → Linked o es b → Agrees o es b

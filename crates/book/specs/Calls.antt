@@ -3,6 +3,7 @@
 use Rattle.std.specs.Prelude.{◌≡◌, ℕ, ◌<◌, ◌≤◌, true, false, List, length, Ok, Err, Result, ◌≢◌, slice_index_or}
 use Rattle.network.specs.Network.{no_row}
 use Rattle.network.specs.Rows.{Sound, Refused}
+use Rattle.network.specs.declared.entry.Standing.{Standing}
 use Rattle.network.specs.declared.row.Row.{Row}
 use Rattle.network.specs.declared.refusal.RowRefusal.{RowRefusal}
 use Rattle.book.specs.declared.permit.Permit.{Permit}
@@ -10,7 +11,7 @@ use Rattle.book.specs.declared.refusal.Refusal.{Refusal}
 use Rattle.book.specs.declared.refusal.Refusal.TheVariants.{Stations, TooManyRows, BadRow, NoSuchLink, NotInService, MapStands, NoMap, NothingSettled, NoMemory}
 use Rattle.book.specs.declared.refusal.PermitRefusal.{PermitRefusal}
 use Rattle.book.specs.declared.refusal.PermitRefusal.TheVariants.{OtherBook, NotOut, StillGood}
-use Rattle.book.specs.Matter.{Matter, links, In, Struck, serviced, stricken, opened}
+use Rattle.book.specs.Matter.{Matter, links, In, Struck, serviced, stricken, stood, opened}
 
 -- 1 to 512 stations
 abbrev pub FairNumber : ℕ → Type 0
@@ -19,6 +20,10 @@ FairNumber stations = (1 ≤ stations) × (stations ≤ 512)
 -- the first k rows describe links
 abbrev pub AllSound : ℕ → List Row → ℕ → Type 0
 AllSound stations rows k = (i : ℕ) → i < k → Sound stations (slice_index_or rows i no_row)
+
+-- the first k rows have delays that fit the type of a link record
+abbrev pub AllBounded : List Row → ℕ → Type 0
+AllBounded rows k = (i : ℕ) → i < k → (slice_index_or rows i no_row).ns ≤ 4294967295
 
 -- the first row that describes no link is refused so
 pub record FirstBad (stations : ℕ) (rows : List Row) (why : RowRefusal) : Type 0 where
@@ -75,6 +80,11 @@ abbrev pub NotGood : Matter → Permit → PermitRefusal → Type 0
 NotGood b p (OtherBook q) = (q ≡ p) × (p.book ≢ b.number)
 NotGood b p (NotOut q) = (q ≡ p) × (p.book ≡ b.number) × (Out b p.link → ⊥)
 NotGood b p (StillGood q) = ⊥
+
+-- ending a permit that could be given back, whose link then stands so
+abbrev pub Ends : Matter → Permit → Standing → Result (Unit {0}) PermitRefusal → Matter → Type 0
+Ends b p standing (Ok done) b' = Good b p × (b' ≡ stood b p.link standing)
+Ends b p standing (Err why) b' = NotGood b p why × (b' ≡ b)
 
 -- giving a permit back, which restores its link
 abbrev pub GivesBack : Matter → Permit → Result (Unit {0}) PermitRefusal → Matter → Type 0

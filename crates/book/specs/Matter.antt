@@ -1,6 +1,11 @@
 -- What a book says, in the words of its subject.
-use Rattle.std.specs.Prelude.{◌≡◌, ℕ, Bool, true, false, List, [], length, replicate, vec_items, slice_index_or, slice_set}
+use Rattle.std.specs.Prelude.{◌≡◌, ℕ, Bool, true, false, List, [], length, replicate, slice_index_or, slice_set}
 use Rattle.network.specs.Network.{Network}
+use Rattle.network.specs.Schemes.{network_of, struck_of, served}
+use Rattle.network.specs.Entries.{is_in, is_struck}
+use Rattle.network.specs.declared.entry.Entry.{Entry}
+use Rattle.network.specs.declared.entry.Standing.{Standing}
+use Rattle.network.specs.declared.entry.Standing.TheVariants.{In as Serving}
 use Rattle.network.specs.declared.row.Row.{Row}
 use Rattle.book.specs.declared.book.Book.{Book}
 use Rattle.book.specs.declared.stage.Stage.{Stage}
@@ -18,8 +23,8 @@ abbrev pub matter : Book → Matter
 matter b =
     record {
       number = b.number;
-      network = record { stations = b.stations; rows = vec_items b.rows; service = vec_items b.service };
-      struck = vec_items b.struck;
+      network = network_of b.scheme;
+      struck = struck_of b.scheme;
       stage = b.stage;
     }
 
@@ -46,6 +51,20 @@ serviced b k v =
 
 abbrev pub stricken : Matter → ℕ → Matter
 stricken b k = record { number = b.number; network = b.network; struck = slice_set b.struck k true; stage = Bare }
+
+-- the same book, bare, but for the link k, which stands so
+abbrev pub stood : Matter → ℕ → Standing → Matter
+stood b k standing =
+    record {
+      number = b.number;
+      network = served b.network k (is_in standing);
+      struck = slice_set b.struck k (is_struck standing);
+      stage = Bare;
+    }
+
+-- the link that a row describes as its book is opened: in service
+abbrev pub fresh : Row → Entry
+fresh r = record { row = r; standing = Serving }
 
 -- a book as it is opened: bare, all links in service
 abbrev pub opened : ℕ → ℕ → List Row → Matter

@@ -4,6 +4,7 @@ ghost use Rattle.book.specs.Matter.{matter, links};
 
 use super::book::Book;
 use super::stage::Stage;
+use network::entry::Standing;
 use network::link::Link;
 
 impl Book {
@@ -18,14 +19,14 @@ impl Book {
     pub fn stations(&self) -> u32
         ensures { result ≡ (matter self.now).network.stations }
     {
-        self.stations
+        self.scheme.stations
     }
 
     /// How many links it has, in service or not.
     pub fn links(&self) -> u32
         ensures { result ≡ links (matter self.now) }
     {
-        self.rows.len() as u32
+        self.scheme.links.len() as u32
     }
 
     /// How far it is worked out.
@@ -36,27 +37,20 @@ impl Book {
     }
 
     /// The link of that number, made from its row; none where the book has no such link.
+    #[tactic(auto, using(crate::proofs::Soundness::made, crate::proofs::Soundness::proper))]
     pub fn link(&self, number: u32) -> Option<Link>
         ensures { MatchOption result (links (matter self.now) ≤ number) (λ l. (number < links (matter self.now)) × (l.from ≡ (row_of (matter self.now).network number).from) × (l.to ≡ (row_of (matter self.now).network number).to) × (l.ns ≡ (row_of (matter self.now).network number).ns)) }
     {
-        let k = number as usize;
-        if k >= self.rows.len() {
-            return None;
-        }
-        match Link::of_row(self.rows[k], self.stations) {
-            Ok(link) => Some(link),
-            Err(_) => unreachable(),
-        }
+        let entry = self.scheme.entry(number as usize)?;
+        Link::of_row(entry.row, self.scheme.stations).ok()
     }
 
     /// Whether the link of that number is in service; one that the book has not is not.
     pub fn in_service(&self, number: u32) -> bool
         ensures { result ≡ slice_index_or (matter self.now).network.service number false }
     {
-        let k = number as usize;
-        if k >= self.service.len() {
-            return false;
-        }
-        self.service[k]
+        self.scheme
+            .entry(number as usize)
+            .is_some_and(|entry| entry.standing == Standing::In)
     }
 }

@@ -1,11 +1,12 @@
-ghost use Rattle.std.specs.Prelude.{◌≡◌, ℕ, ◌<◌, ◌≤◌, Bool, true, false, length, MatchOption, MatchResult};
-ghost use Rattle.book.specs.Matter.{matter, links, In, Struck};
-ghost use Rattle.book.specs.Calls.{Withdraws, Out, Good, NotGood, GivesBack, Strikes, Annuls};
+ghost use Rattle.std.specs.Prelude.{◌≡◌, ◌↔◌, IsTrue, MatchResult};
+ghost use Rattle.book.specs.Matter.{matter, stood};
+ghost use Rattle.book.specs.Calls.{Withdraws, Out, Good, NotGood, Ends, GivesBack, Strikes, Annuls};
 
 use super::book::Book;
 use super::permit::Permit;
 use super::refusal::{PermitRefusal, Refusal};
 use super::stage::Stage;
+use network::entry::Standing;
 
 impl Book {
     /// Takes a link out of service, and answers the permit to put it back. Refuses a link that the book has not, and one that is not
@@ -13,15 +14,11 @@ impl Book {
     pub fn withdraw(&mut self, link: u32) -> Result<Permit, Refusal>
         ensures { Withdraws (matter self.old) link result (matter self.new) }
     {
-        let k = link as usize;
-        if k >= self.service.len() {
-            return Err(Refusal::NoSuchLink);
-        }
-        if !self.service[k] {
+        let entry = self.scheme.entry(link as usize).ok_or(Refusal::NoSuchLink)?;
+        if entry.standing != Standing::In {
             return Err(Refusal::NotInService);
         }
-        self.service[k] = false;
-        self.stage = Stage::Bare;
+        self.stand(link, Standing::Out);
         Ok(Permit {
             book: self.number,
             link,
@@ -31,17 +28,11 @@ impl Book {
 
     /// Whether the link is out, and not for good.
     fn is_out(&self, link: u32) -> bool
-        ensures yes { result ≡ true → Out (matter self.now) link }
-        ensures no { result ≡ false → Out (matter self.now) link → ⊥ }
+        ensures { IsTrue result ↔ Out (matter self.now) link }
     {
-        let k = link as usize;
-        if k >= self.service.len() {
-            return false;
-        }
-        if self.service[k] {
-            return false;
-        }
-        !self.struck[k]
+        self.scheme
+            .entry(link as usize)
+            .is_some_and(|entry| entry.standing == Standing::Out)
     }
 
     /// The permit, where giving it back would do, or the refusal with it.
@@ -57,36 +48,43 @@ impl Book {
         Ok(permit)
     }
 
+    /// Sets where a link stands; the book is bare then.
+    fn stand(&mut self, link: u32, standing: Standing)
+        ensures { matter self.new ≡ stood (matter self.old) link standing }
+    {
+        self.scheme.stand(link as usize, standing);
+        self.stage = Stage::Bare;
+    }
+
+    /// Ends a permit that could be given back, and sets where its link stands.
+    fn end(&mut self, permit: Permit, standing: Standing) -> Result<(), PermitRefusal>
+        ensures { Ends (matter self.old) permit standing result (matter self.new) }
+    {
+        let mut permit = self.checked(permit)?;
+        permit.spent = true;
+        self.stand(permit.link, standing);
+        Ok(())
+    }
+
     /// Puts the permit's link back into service. Refuses a permit of another book's number, and one whose link is no link of this
     /// book, or not out, or out for good; the permit then comes back.
     pub fn give_back(&mut self, permit: Permit) -> Result<(), PermitRefusal>
         ensures { GivesBack (matter self.old) permit result (matter self.new) }
     {
-        let mut permit = self.checked(permit)?;
-        let k = permit.link as usize;
-        permit.spent = true;
-        self.service[k] = true;
-        self.stage = Stage::Bare;
-        Ok(())
+        self.end(permit, Standing::In)
     }
 
     /// Leaves the permit's link out for good. Refuses as giving back does.
     pub fn strike(&mut self, permit: Permit) -> Result<(), PermitRefusal>
         ensures { Strikes (matter self.old) permit result (matter self.new) }
     {
-        let mut permit = self.checked(permit)?;
-        let k = permit.link as usize;
-        permit.spent = true;
-        self.struck[k] = true;
-        self.stage = Stage::Bare;
-        Ok(())
+        self.end(permit, Standing::Struck)
     }
 
     /// Ends a permit that could not be given back, and changes nothing. Refuses one that could; it then comes back.
-    pub fn annul(&self, permit: Permit) -> Result<(), PermitRefusal>
+    pub fn annul(&self, mut permit: Permit) -> Result<(), PermitRefusal>
         ensures { Annuls (matter self.now) permit result }
     {
-        let mut permit = permit;
         if permit.book == self.number && self.is_out(permit.link) {
             return Err(PermitRefusal::StillGood(permit));
         }

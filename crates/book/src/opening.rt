@@ -1,25 +1,38 @@
-ghost use Rattle.std.specs.Prelude.{◌≡◌, ℕ, ◌<◌, ◌≤◌, length, IfOk, MatchOption};
-ghost use Rattle.book.specs.Matter.{matter, unopened};
-ghost use Rattle.book.specs.Calls.{AllSound, FirstBad, Opens};
+ghost use Rattle.std.specs.Prelude.{◌≡◌, ℕ, ◌<◌, ◌≤◌, length, map, IfOk, MatchResult};
+ghost use Rattle.book.specs.Matter.{matter, fresh, unopened};
+ghost use Rattle.book.specs.Calls.{AllSound, AllBounded, FirstBad, Opens};
 
 use super::book::Book;
 use super::refusal::Refusal;
 use super::stage::Stage;
+use network::entry::{Entry, Standing};
 use network::link::Link;
 use network::refusal::RowRefusal;
 use network::row::Row;
+use network::scheme::Scheme;
 use std::alloc::{AllocError, Global};
 
-/// The first row that describes no link of a network of so many stations.
-fn first_bad(stations: u32, rows: &[Row]) -> Option<RowRefusal>
-    ensures { MatchOption result (AllSound stations rows.now (length rows.now)) (λ why. FirstBad stations rows.now why) }
+/// Refuses the first row that describes no link of a network of so many stations.
+fn check_rows(stations: u32, rows: &[Row]) -> Result<(), RowRefusal>
+    ensures first { MatchResult result (λ _. AllSound stations rows.now (length rows.now)) (λ why. FirstBad stations rows.now why) }
+    ensures bounded { IfOk result (λ _. AllBounded rows.now (length rows.now)) }
 {
-    for k in 0..rows.len() {
-        if let Err(why) = Link::of_row(rows[k], stations) {
-            return Some(why);
-        }
+    for row in rows {
+        Link::of_row(*row, stations)?;
     }
-    None
+    Ok(())
+}
+
+/// The links that rows describe, all in service.
+fn links_of(heap: Global, rows: &[Row]) -> Result<Vec<Entry>, AllocError>
+    ensures { IfOk result (λ links. links.items ≡ map fresh rows.now) }
+{
+    rows.iter()
+        .map(|row| Entry {
+            row: *row,
+            standing: Standing::In,
+        })
+        .collect(heap)
 }
 
 impl Book {
@@ -29,10 +42,10 @@ impl Book {
     {
         Ok(Book {
             number: 0,
-            stations: 1,
-            rows: Vec::new(heap),
-            service: Vec::new(heap),
-            struck: Vec::new(heap),
+            scheme: Scheme {
+                stations: 1,
+                links: Vec::new(heap),
+            },
             stage: Stage::Bare,
         })
     }
@@ -52,22 +65,14 @@ impl Book {
         if stations == 0 || stations > 512 {
             return Err(Refusal::Stations);
         }
-        let count = rows.len();
-        if count > 2048 {
+        if rows.len() > 2048 {
             return Err(Refusal::TooManyRows);
         }
-        if let Some(why) = first_bad(stations, rows) {
-            return Err(Refusal::BadRow(why));
-        }
-        let kept = Vec::from_slice(heap, rows)?;
-        let service = vec![in heap; true; count]?;
-        let struck = vec![in heap; false; count]?;
+        check_rows(stations, rows)?;
+        let links = links_of(heap, rows)?;
         *self = Book {
             number,
-            stations,
-            rows: kept,
-            service,
-            struck,
+            scheme: Scheme { stations, links },
             stage: Stage::Bare,
         };
         Ok(())

@@ -1,13 +1,15 @@
 ghost use Rattle.std.specs.Prelude.{◌≡◌};
 ghost use Rattle.book.specs.Refusals.{number_of, permit_number, permit_back};
-ghost use Rattle.book.specs.declared.refusal.Refusal.TheVariants.{NoMemory};
+ghost use Rattle.book.specs.declared.refusal.Refusal.TheVariants.{BadRow, NoMemory};
 
 use super::permit::Permit;
 use network::refusal::RowRefusal;
 use std::alloc::AllocError;
+use std::error::Error;
+use std::fmt;
 
 /// Why a call on a book is refused, where the refusal keeps no permit.
-#[derive(Clone, Copy)]
+#[derive(Clone, Copy, Debug, PartialEq, Eq)]
 pub enum Refusal {
     /// there are no stations, or more than 512
     Stations,
@@ -42,6 +44,7 @@ pub enum PermitRefusal {
 
 impl Refusal {
     /// The number of the refusal in the table of causes; want of memory has 0.
+    // Kept: the numbers are the table's own and are printed; a case that holds a row has no number to be cast to.
     pub fn number(self) -> u8
         ensures { result ≡ number_of self }
     {
@@ -61,6 +64,7 @@ impl Refusal {
 
 impl PermitRefusal {
     /// The number of the refusal in the table of causes.
+    // Kept: the numbers are the table's own and are printed; a case that holds a permit has no number to be cast to.
     pub fn number(&self) -> u8
         ensures { result ≡ permit_number self.now }
     {
@@ -76,17 +80,43 @@ impl PermitRefusal {
         ensures { result ≡ permit_back self }
     {
         match self {
-            PermitRefusal::OtherBook(permit) => permit,
-            PermitRefusal::NotOut(permit) => permit,
-            PermitRefusal::StillGood(permit) => permit,
+            PermitRefusal::OtherBook(permit)
+            | PermitRefusal::NotOut(permit)
+            | PermitRefusal::StillGood(permit) => permit,
         }
     }
 }
+
+impl fmt::Display for Refusal {
+    fn fmt<W: fmt::Write>(&self, f: &mut fmt::Formatter<W>) -> fmt::Result {
+        match self {
+            Refusal::Stations => f.write_str("there are no stations, or more than 512"),
+            Refusal::TooManyRows => f.write_str("there are more than 2,048 rows"),
+            Refusal::BadRow(refusal) => refusal.fmt(f),
+            Refusal::NoSuchLink => f.write_str("the book has no link of that number"),
+            Refusal::NotInService => f.write_str("the link is not in service"),
+            Refusal::MapStands => f.write_str("the book has its map already"),
+            Refusal::NoMap => f.write_str("the book has no map"),
+            Refusal::NothingSettled => f.write_str("nothing is settled"),
+            Refusal::NoMemory => f.write_str("memory was wanting"),
+        }
+    }
+}
+
+impl Error for Refusal {}
 
 impl From<AllocError> for Refusal {
     ghost from_gives = { λ _ r. r ≡ NoMemory };
 
     fn from(_e: AllocError) -> Refusal {
         Refusal::NoMemory
+    }
+}
+
+impl From<RowRefusal> for Refusal {
+    ghost from_gives = { λ why r. r ≡ BadRow why };
+
+    fn from(why: RowRefusal) -> Refusal {
+        Refusal::BadRow(why)
     }
 }

@@ -4,7 +4,7 @@ ghost use Rattle.book.specs.Stages.{next_stage};
 use super::refusal::Refusal;
 
 /// How far a book has been worked out.
-#[derive(Clone, Copy)]
+#[derive(Clone, Copy, Debug, PartialEq, Eq)]
 pub enum Stage {
     /// only its links are known
     Bare,
@@ -15,7 +15,7 @@ pub enum Stage {
 }
 
 /// What a call asks of the stage.
-#[derive(Clone, Copy)]
+#[derive(Clone, Copy, Debug, PartialEq, Eq)]
 pub enum Asked {
     /// to change which links are in service
     Change,
@@ -31,6 +31,7 @@ pub enum Asked {
 
 impl Stage {
     /// The stage after a granted call, or the refusal that the stage alone decides.
+    // Kept: one match on stage and call is the form that is prescribed.
     pub fn after(self, asked: Asked) -> Result<Stage, Refusal>
         ensures { result ≡ next_stage self asked }
     {
@@ -42,7 +43,7 @@ impl Stage {
             (_, Asked::Settle(source)) => Ok(Stage::Settled(source)),
             (Stage::Bare, Asked::ReadMap) => Err(Refusal::NoMap),
             (stage, Asked::ReadMap) => Ok(stage),
-            (Stage::Settled(source), Asked::ReadDelays) => Ok(Stage::Settled(source)),
+            (stage @ Stage::Settled(_), Asked::ReadDelays) => Ok(stage),
             (_, Asked::ReadDelays) => Err(Refusal::NothingSettled),
         }
     }
