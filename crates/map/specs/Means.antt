@@ -1,7 +1,8 @@
 -- The tree that a map stands for.
-use Rattle.std.specs.Prelude.{ℕ, zero, suc, List, [], ◌∷◌, None, vec_items, slice_index, slice_index_or}
+use Rattle.std.specs.Prelude.{ℕ, zero, suc, List, [], ◌∷◌, vec_items, vec_len, slice_index}
 use Rattle.tree.specs.Tree.{Tree}
 use Rattle.map.specs.declared.map.Map.{Map}
+use Rattle.map.specs.Nodes.{nth}
 
 -- n numbers of the list, from its place i on
 abbrev pub part : List ℕ → ℕ → ℕ → List ℕ
@@ -10,16 +11,16 @@ part l i (suc n) = slice_index l i ∷ part l (suc i) n
 
 abbrev pub tree_of : Map → Tree
 tree_of m = record {
-  stations = m.stations;
-  nodes = m.nodes;
-  parent = λ x. slice_index_or (vec_items m.parent) x None;
-  children = λ x. part (vec_items m.children) (slice_index (vec_items m.from) x) (slice_index (vec_items m.many) x);
-  level = λ x. slice_index (vec_items m.level) x;
-  lowest = λ x. slice_index (vec_items m.lowest) x;
-  spread = λ x. slice_index (vec_items m.spread) x;
-  buckets = λ x. slice_index (vec_items m.buckets) x;
-  first = λ x. slice_index (vec_items m.first) x;
+  stations = vec_len m.place;
+  nodes = vec_len m.nodes;
+  parent = λ x. (nth (vec_items m.nodes) x).parent;
+  children = λ x. part (vec_items m.children) (nth (vec_items m.nodes) x).from (nth (vec_items m.nodes) x).many;
+  level = λ x. (nth (vec_items m.nodes) x).level;
+  lowest = λ x. (nth (vec_items m.nodes) x).lowest;
+  spread = λ x. (nth (vec_items m.nodes) x).spread;
+  buckets = λ x. (nth (vec_items m.nodes) x).buckets;
+  first = λ x. (nth (vec_items m.nodes) x).first;
   place = λ u. slice_index (vec_items m.place) u;
-  low = λ x. slice_index (vec_items m.low) x;
-  high = λ x. slice_index (vec_items m.high) x;
+  low = λ x. (nth (vec_items m.nodes) x).low;
+  high = λ x. (nth (vec_items m.nodes) x).high;
 }

@@ -1,33 +1,30 @@
 ghost use Rattle.std.specs.Prelude.{◌≡◌, ℕ, ◌+◌, ◌-◌, ◌<◌, ◌≤◌, length, MatchOption, slice_index};
 ghost use Rattle.map.specs.Means.{tree_of};
+ghost use Rattle.map.specs.Nodes.{nth};
 
 use super::map::Map;
-
-/// The number at a place of a list; 0 past its end.
-fn number_at(list: &Vec<u32>, i: usize) -> u32
-    ensures { result ≡ slice_index list.now.items i }
-{
-    if i < list.len() { list[i] } else { 0 }
-}
+use super::node::Node;
 
 impl Map {
+    /// The node of that number; past the last it has no parent, no children, and 0 in every number.
+    fn node(&self, node: u32) -> Node
+        ensures { result ≡ nth self.now.nodes.items node }
+    {
+        self.nodes.get(node as usize).copied().unwrap_or_default()
+    }
+
     /// How many stations there are.
     pub fn stations(&self) -> u32
         ensures { result ≡ (tree_of self.now).stations }
     {
-        self.stations
+        self.place.len() as u32
     }
 
     /// The parent of a node; a root has none.
     pub fn parent_of(&self, node: u32) -> Option<u32>
         ensures { result ≡ (tree_of self.now).parent node }
     {
-        let i = node as usize;
-        if i < self.parent.len() {
-            self.parent[i]
-        } else {
-            None
-        }
+        self.node(node).parent
     }
 
     /// The level of a node.
@@ -35,7 +32,7 @@ impl Map {
         ensures is { result ≡ (tree_of self.now).level node }
         ensures small { result ≤ 32 }
     {
-        number_at(&self.level, node as usize)
+        self.node(node).level
     }
 
     /// By how much a delay is shifted to be counted in the width of a node's buckets.
@@ -58,16 +55,17 @@ impl Map {
     pub fn many_of(&self, node: u32) -> u32
         ensures { result ≡ length ((tree_of self.now).children node) }
     {
-        number_at(&self.many, node as usize)
+        self.node(node).many
     }
 
     /// The child of that place among the children of a node; 0 past the last.
     pub fn child_of(&self, node: u32, i: u32) -> u32
         ensures { result ≡ slice_index ((tree_of self.now).children node) i }
     {
-        if i < self.many_of(node) {
-            let from = number_at(&self.from, node as usize);
-            number_at(&self.children, from as usize + i as usize)
+        let Node { from, many, .. } = self.node(node);
+        if i < many {
+            let at = from as usize + i as usize;
+            self.children.get(at).copied().unwrap_or(0)
         } else {
             0
         }
@@ -77,21 +75,21 @@ impl Map {
     pub fn place_of(&self, station: u32) -> u32
         ensures { result ≡ (tree_of self.now).place station }
     {
-        number_at(&self.place, station as usize)
+        self.place.get(station as usize).copied().unwrap_or(0)
     }
 
     /// The first place of a node's run.
     pub fn low_of(&self, node: u32) -> u32
         ensures { result ≡ (tree_of self.now).low node }
     {
-        number_at(&self.low, node as usize)
+        self.node(node).low
     }
 
     /// The last place of a node's run.
     pub fn high_of(&self, node: u32) -> u32
         ensures { result ≡ (tree_of self.now).high node }
     {
-        number_at(&self.high, node as usize)
+        self.node(node).high
     }
 
     /// The bucket `k` of a node, counted from its first; none past its last.
@@ -99,9 +97,8 @@ impl Map {
         ensures { MatchOption result ((tree_of self.now).buckets node ≤ k)
             (λ b. (k < (tree_of self.now).buckets node) × (b ≡ (tree_of self.now).first node + k)) }
     {
-        let many = number_at(&self.buckets, node as usize);
-        let first = number_at(&self.first, node as usize);
-        if k < u64::from(many) {
+        let Node { buckets, first, .. } = self.node(node);
+        if k < u64::from(buckets) {
             Some(first + k as u32)
         } else {
             None

@@ -1,22 +1,20 @@
-use Rattle.std.proofs.Common.{◌≡◌, ℕ, ◌+◌, ◌<◌, ◌≤◌, get_or, vec_items, sym, ap, ◌∙◌, arith, rules}
-use Rattle.map.proofs.Parts.{part_length, part_at, part_past}
+use Rattle.std.proofs.Common.{◌≡◌, ◌+◌, get_or, vec_items, ap, sym, ◌∙◌, arith, rules}
+use Rattle.map.specs.declared.node.Node.{Node}
+use Rattle.map.specs.Nodes.{nth}
+use Rattle.map.proofs.Parts.{part_at, part_past}
 use Rattle.map.proofs.map.Map.child_of.Goals as goal
 
-pub returns-then-i-many_of : goal.returns-then-i-many_of
-returns-then-i-many_of c =
-    let m = c.args.self.now in
-    let from = get_or (vec_items m.from) c.args.node 0 in
-    let many = get_or (vec_items m.many) c.args.node 0 in
-    let e : c.many_of.result ≡ many = c.many_of.ensures ∙ part_length (vec_items m.children) from many in
-    let lt : c.args.i < many = omega arith in
-    let s : c.number_at-from.result ≡ from = c.number_at-from.ensures in
-    let r : c.number_at.result ≡ get_or (vec_items m.children) (c.number_at-from.result + c.args.i) 0 = search rules in
-    r ∙ ap (λ (a : ℕ). get_or (vec_items m.children) (a + c.args.i) 0) s ∙ sym (part_at (vec_items m.children) from many c.args.i lt)
+pub returns-then-i-many : goal.returns-then-i-many
+returns-then-i-many c =
+    let xs = vec_items c.args.self.now.children in
+    let n : Node = nth (vec_items c.args.self.now.nodes) c.args.node in
+    let from : c.node-from.result.from ≡ n.from = ap (λ (m : Node). m.from) c.node-from.ensures in
+    let many : c.node-from.result.many ≡ n.many = ap (λ (m : Node). m.many) c.node-from.ensures in
+    let r : c.unwrap_or.result ≡ get_or xs (c.node-from.result.from + c.args.i) 0 = search rules in
+    r ∙ ap (λ a. get_or xs (a + c.args.i) 0) from ∙ sym (part_at xs n.from n.many c.args.i (omega arith))
 
-pub returns-else-i-many_of : goal.returns-else-i-many_of
-returns-else-i-many_of c =
-    let m = c.args.self.now in
-    let from = get_or (vec_items m.from) c.args.node 0 in
-    let many = get_or (vec_items m.many) c.args.node 0 in
-    let e : c.many_of.result ≡ many = c.many_of.ensures ∙ part_length (vec_items m.children) from many in
-    let past : many ≤ c.args.i = omega arith in sym (part_past (vec_items m.children) from many c.args.i past)
+pub returns-else-i-many : goal.returns-else-i-many
+returns-else-i-many c =
+    let n : Node = nth (vec_items c.args.self.now.nodes) c.args.node in
+    let many : c.node-from.result.many ≡ n.many = ap (λ (m : Node). m.many) c.node-from.ensures in
+    sym (part_past (vec_items c.args.self.now.children) n.from n.many c.args.i (omega arith))
