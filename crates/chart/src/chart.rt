@@ -11,6 +11,7 @@ use network::scheme::Scheme;
 pub struct Chart {
     pub scheme: Scheme,
     pub map: Map,
+    // Kept: no enum of a bare and a standing map, since taking it down would move the map's memory out of one variant into the other, through an empty map.
     pub stands: bool,
     ghost right: { stands ≡ true → ∥ Components (network_of scheme) (tree_of map) ∥₁ },
 }

@@ -10,6 +10,7 @@ pub struct Node {
     pub first: u32,
     pub low: u32,
     pub high: u32,
+    // Kept: a run of the map's list, since a list of each node's own children would take memory after opening.
     pub from: u32,
     pub many: u32,
 }
