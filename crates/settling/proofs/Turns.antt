@@ -12,6 +12,7 @@ use Rattle.walk.proofs.Runs.{changed_set}
 use Rattle.shelf.specs.Holds.{Holds, bucket_at}
 use Rattle.keeper.specs.Keeps.{Keeps}
 use Rattle.map.specs.declared.map.Map.{Map}
+use Rattle.map.specs.Means.{tree_of}
 use Rattle.settling.specs.declared.trail.Trail.{Trail}
 use Rattle.settling.specs.Means.{final_of, base_of, count_of, sofar_of, shelf_of, core_of, Risen, Opened}
 use Rattle.settling.specs.Asks.{Room, Alike, Visited}
@@ -131,8 +132,8 @@ pub room_risen : {m : Map} {w w' : Trail} {h h' : Holds} {k : Keeps} {x : ℕ} �
 room_risen {m} {w} {w'} {h} {h'} {x = x} r s e =
     let n = list_long (vec_items w.count) (vec_items w'.count) x _ s.count in
     record {
-      settled = subst (λ (b : _). m.stations ≤ vec_len b) (sym s.settled) r.settled;
-      base = subst (λ (b : _). m.nodes ≤ vec_len b) (sym s.base) r.base;
+      settled = subst (λ (b : _). (tree_of m).stations ≤ vec_len b) (sym s.settled) r.settled;
+      base = subst (λ (b : _). (tree_of m).nodes ≤ vec_len b) (sym s.base) r.base;
       count = omega (arith, r.count, n, w.count.ok.0, w'.count.ok.0);
       items = omega (arith, r.items, ap (λ (z : Holds). z.items) e);
       buckets = omega (arith, r.buckets, ap (λ (z : Holds). z.buckets) e);
@@ -145,7 +146,7 @@ room_opened {m} {w} {w'} {x = x} r s e₁ e₂ =
     let n = list_long (vec_items w.count) (vec_items w'.count) x _ s.count in
     let l = list_long (vec_items w.base) (vec_items w'.base) x _ s.base in
     record {
-      settled = subst (λ (b : _). m.stations ≤ vec_len b) (sym s.settled) r.settled;
+      settled = subst (λ (b : _). (tree_of m).stations ≤ vec_len b) (sym s.settled) r.settled;
       base = omega (arith, r.base, l, w.base.ok.0, w'.base.ok.0);
       count = omega (arith, r.count, n, w.count.ok.0, w'.count.ok.0);
       items = omega (arith, r.items, e₁);

@@ -8,6 +8,7 @@ use Rattle.walk.proofs.Runs.{changed_set}
 use Rattle.shelf.specs.Holds.{Holds}
 use Rattle.keeper.specs.Keeps.{Keeps, LeastFrom, delay_at}
 use Rattle.map.specs.declared.map.Map.{Map}
+use Rattle.map.specs.Means.{tree_of}
 use Rattle.settling.specs.declared.trail.Trail.{Trail}
 use Rattle.settling.specs.Means.{final_of, sofar_of, shelf_of, core_of, SettledAt}
 use Rattle.settling.specs.Asks.{Room}
@@ -43,8 +44,8 @@ room_settled {m} {w} {w'} {v = v} {d = d} r s e =
     let n : length (vec_items w'.settled) ≡ length (vec_items w.settled) = ap length s.settled ∙ length-set (vec_items w.settled) v (Some d) in
     record {
       settled = omega (arith, r.settled, n, w.settled.ok.0, w'.settled.ok.0);
-      base = subst (λ (b : _). m.nodes ≤ vec_len b) (sym s.base) r.base;
-      count = subst (λ (b : _). m.nodes ≤ vec_len b) (sym s.count) r.count;
+      base = subst (λ (b : _). (tree_of m).nodes ≤ vec_len b) (sym s.base) r.base;
+      count = subst (λ (b : _). (tree_of m).nodes ≤ vec_len b) (sym s.count) r.count;
       items = r.items;
       buckets = r.buckets;
       places = omega (arith, r.places, e);

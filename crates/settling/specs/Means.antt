@@ -7,11 +7,12 @@ use Rattle.walk.specs.State.{Shelf, Core}
 use Rattle.shelf.specs.Holds.{Holds, bucket_at}
 use Rattle.keeper.specs.Keeps.{Keeps, delay_at}
 use Rattle.map.specs.declared.map.Map.{Map}
+use Rattle.map.specs.Means.{tree_of}
 use Rattle.settling.specs.declared.trail.Trail.{Trail}
 
 -- the stations of a map, and links over them
 abbrev pub network_of : Map → List Row → List Bool → Network
-network_of m rows service = record { stations = m.stations; rows = rows; service = service }
+network_of m rows service = record { stations = (tree_of m).stations; rows = rows; service = service }
 
 abbrev pub final_of : Trail → ℕ → Option ℕ
 final_of w u = slice_index_or (vec_items w.settled) u None

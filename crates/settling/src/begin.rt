@@ -62,8 +62,8 @@ pub(crate) fn prepare<S: Shelf, K: Keeper>(
     source: u32,
 )
     requires tree { Walkable (tree_of map.now) }
-    requires source { source < map.now.stations }
-    requires places { map.now.stations ≤ (K.Keeper.meaning keeper.old).places }
+    requires source { source < (tree_of map.now).stations }
+    requires places { (tree_of map.now).stations ≤ (K.Keeper.meaning keeper.old).places }
     ensures { Blank source (record { core = core_of (tree_of map.now) trail.new (S.Shelf.meaning shelf.new) (K.Keeper.meaning keeper.new); frames = [] }) }
 {
     clear(trail);

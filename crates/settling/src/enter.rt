@@ -33,11 +33,11 @@ pub(crate) fn enter<S: Shelf, K: Keeper>(
     node: u32,
     p: u32,
 ) -> Frame
-    requires listed { node < map.now.nodes }
+    requires listed { node < (tree_of map.now).nodes }
     requires tree { Walkable (tree_of map.now) }
-    requires base { map.now.nodes ≤ vec_len trail.old.base }
-    requires count { map.now.nodes ≤ vec_len trail.old.count }
-    requires items { map.now.nodes ≤ (S.Shelf.meaning shelf.old).items }
+    requires base { (tree_of map.now).nodes ≤ vec_len trail.old.base }
+    requires count { (tree_of map.now).nodes ≤ vec_len trail.old.count }
+    requires items { (tree_of map.now).nodes ≤ (S.Shelf.meaning shelf.old).items }
     requires buckets { buckets_in_all (tree_of map.now) ≤ (S.Shelf.meaning shelf.old).buckets }
     requires kids { base_of trail.old node ≡ None → Kids (tree_of map.now) node (S.Shelf.meaning shelf.old) }
     requires known { Nothing (tree_of map.now) (sofar_of (tree_of map.now) (K.Keeper.meaning keeper.now)) node → ⊥ }

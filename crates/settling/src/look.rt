@@ -19,7 +19,7 @@ use walk::frame::Frame;
 
 /// Whether the visit `f` goes on: its node has an unvisited station, and its counter is still in the bucket of the parent in which it was.
 pub(crate) fn goes_on<K: Keeper>(map: &Map, trail: &Trail, keeper: &K, f: Frame) -> bool
-    requires listed { f.node < map.now.nodes }
+    requires listed { f.node < (tree_of map.now).nodes }
     requires tree { Walkable (tree_of map.now) }
     requires watch { Watch (tree_of map.now) (final_of trail.now) (sofar_of (tree_of map.now) (K.Keeper.meaning keeper.now)) f.node }
     ensures { (h : Holds) → MatchBool result
@@ -46,9 +46,9 @@ pub(crate) fn leave<S: Shelf, K: Keeper>(
     keeper: &K,
     f: Frame,
 )
-    requires listed { f.node < map.now.nodes }
+    requires listed { f.node < (tree_of map.now).nodes }
     requires tree { Walkable (tree_of map.now) }
-    requires items { map.now.nodes ≤ (S.Shelf.meaning shelf.old).items }
+    requires items { (tree_of map.now).nodes ≤ (S.Shelf.meaning shelf.old).items }
     requires buckets { buckets_in_all (tree_of map.now) ≤ (S.Shelf.meaning shelf.old).buckets }
     requires few { (S.Shelf.meaning shelf.old).puts < 65535 }
     requires free { bucket_at (S.Shelf.meaning shelf.old) f.node ≡ None }

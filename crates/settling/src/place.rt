@@ -14,7 +14,7 @@ use shelf::Shelf;
 /// Where the child `node` belongs: its least, counted in the width of its parent's buckets, tells the bucket; past the parent's last, or
 /// without a least, it belongs nowhere.
 pub(crate) fn belongs<K: Keeper>(map: &Map, trail: &Trail, keeper: &K, node: u32) -> Option<u32>
-    requires listed { node < map.now.nodes }
+    requires listed { node < (tree_of map.now).nodes }
     requires tree { Walkable (tree_of map.now) }
     requires ready { Ready (tree_of map.now) (sofar_of (tree_of map.now) (K.Keeper.meaning keeper.now)) (base_of trail.now) node }
     ensures { Belongs (tree_of map.now) (sofar_of (tree_of map.now) (K.Keeper.meaning keeper.now)) (base_of trail.now) node result }
@@ -56,8 +56,8 @@ pub(crate) fn bring<S: Shelf, K: Keeper>(
     keeper: &K,
     node: u32,
 )
-    requires listed { node < map.now.nodes }
-    requires items { map.now.nodes ≤ (S.Shelf.meaning shelf.old).items }
+    requires listed { node < (tree_of map.now).nodes }
+    requires items { (tree_of map.now).nodes ≤ (S.Shelf.meaning shelf.old).items }
     requires buckets { buckets_in_all (tree_of map.now) ≤ (S.Shelf.meaning shelf.old).buckets }
     requires few { (S.Shelf.meaning shelf.old).puts < 65535 }
     requires tree { Walkable (tree_of map.now) }
@@ -82,7 +82,7 @@ pub(crate) fn front(map: &Map, trail: &Trail, station: u32) -> u32
     requires shut { base_of trail.now station ≡ None }
     requires fronted { Fronted (tree_of map.now) (base_of trail.now) station }
     ensures is { Front (tree_of map.now) (base_of trail.now) station result }
-    ensures listed { result < map.now.nodes }
+    ensures listed { result < (tree_of map.now).nodes }
 {
     let mut c = station;
     while let Some(p) = map.parent_of(c) {

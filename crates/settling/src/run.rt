@@ -49,7 +49,7 @@ pub(crate) fn run_on<'a, S: Shelf, K: Keeper>(
 )
     requires charted { Charted (network_of map.now rows.now service.now) map.now }
     requires few { length rows.now ≤ 2048 }
-    requires source { source < map.now.stations }
+    requires source { source < (tree_of map.now).stations }
     requires room { Room map.now trail.old (S.Shelf.meaning shelf.old) (K.Keeper.meaning keeper.old) }
     requires space { 33 ≤ length frames.old.room.now }
     requires begun { Walk (network_of map.now rows.now service.now) (tree_of map.now) source 0

@@ -35,7 +35,7 @@ pub(crate) fn step<S: Shelf, K: Keeper>(
     requires short { Open (tree_of map.now) (final_of trail.old) f.node → count_of trail.old f.node + 1 < 2 ^ 64 }
     requires callable { (v : ℕ) (h : Holds)
         → Going (tree_of map.now) (core_of (tree_of map.now) trail.old (S.Shelf.meaning shelf.old) (K.Keeper.meaning keeper.old)) f
-        → Taken (tree_of map.now) (core_of (tree_of map.now) trail.old (S.Shelf.meaning shelf.old) (K.Keeper.meaning keeper.old)) f.node v (shelf_of h) → v < map.now.stations
+        → Taken (tree_of map.now) (core_of (tree_of map.now) trail.old (S.Shelf.meaning shelf.old) (K.Keeper.meaning keeper.old)) f.node v (shelf_of h) → v < (tree_of map.now).stations
         → Callable (network_of map.now rows.now service.now) (tree_of map.now) (core_of (tree_of map.now) trail.old h (K.Keeper.meaning keeper.old)) v }
     ensures step { (fs : List FrameOf) → Step (network_of map.now rows.now service.now) (tree_of map.now)
         (record { core = core_of (tree_of map.now) trail.old (S.Shelf.meaning shelf.old) (K.Keeper.meaning keeper.old); frames = f ∷ fs })

@@ -22,7 +22,7 @@ pub(crate) fn visit_station<S: Shelf, K: Keeper>(
 )
     requires charted { Charted (network_of map.now rows.now service.now) map.now }
     requires room { Room map.now trail.old (S.Shelf.meaning shelf.old) (K.Keeper.meaning keeper.old) }
-    requires station { v < map.now.stations }
+    requires station { v < (tree_of map.now).stations }
     requires callable { Callable (network_of map.now rows.now service.now) (tree_of map.now)
         (core_of (tree_of map.now) trail.old (S.Shelf.meaning shelf.old) (K.Keeper.meaning keeper.old)) v }
     ensures visited { Visited (network_of map.now rows.now service.now) (tree_of map.now) v trail.old trail.new

@@ -7,4 +7,4 @@ abbrev pub invariant-loop-p : goal.invariant-loop-p
 invariant-loop-p l = Below (tree_of l.map) l.station l.x
 
 abbrev pub decreases-loop-p : goal.decreases-loop-p
-decreases-loop-p l = l.map.nodes - l.x
+decreases-loop-p l = (tree_of l.map).nodes - l.x

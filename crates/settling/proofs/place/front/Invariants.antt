@@ -10,4 +10,4 @@ invariant-loop-p l =
     Below (tree_of l.map) l.station l.c × (base_of l.trail l.c ≡ None) × Fronted (tree_of l.map) (base_of l.trail) l.c
 
 abbrev pub decreases-loop-p : goal.decreases-loop-p
-decreases-loop-p l = l.map.nodes - l.c
+decreases-loop-p l = (tree_of l.map).nodes - l.c

@@ -85,5 +85,5 @@ loop-f-smaller g c =
     (downward c.loop-f.frames.room.now c.loop-f.frames.len) (after c.step-turn.result f fs) (f ∷ fs) (after c.step-turn.result f fs) c.loop-f.invariant.0 is
     (c.step-turn.ensures.step fs) refl in
     let low = ends net t c.args.source (c.loop-f.steps + 1) _ given walk in
-    let less : 22 * m.stations + 2 * in_service net - (c.loop-f.steps + 1) < 22 * m.stations + 2 * in_service net - c.loop-f.steps = omega (arith, low) in
+    let less : 22 * (tree_of m).stations + 2 * in_service net - (c.loop-f.steps + 1) < 22 * (tree_of m).stations + 2 * in_service net - c.loop-f.steps = omega (arith, low) in
     less

@@ -19,4 +19,4 @@ invariant-loop-f g l =
     × (length l.frames.room.now ≡ length l.initial.frames.room.now)
 
 abbrev pub decreases-loop-f : goal.decreases-loop-f
-decreases-loop-f g l = 22 * l.map.stations + 2 * in_service (network_of l.map l.rows l.service) - l.steps
+decreases-loop-f g l = 22 * (tree_of l.map).stations + 2 * in_service (network_of l.map l.rows l.service) - l.steps

@@ -72,7 +72,7 @@ visit_station-requires g c =
     let e : c.goes_on.result ≡ true = search rules in
     let going = is_going t (core_of t c.args.trail.now h (g.K.Keeper.meaning c.args.keeper.now)) c.args.f c.goes_on.result e (c.goes_on.ensures h) in
     let took = c.in-Some.ensures in
-    let st : c.in-Some.c < c.args.map.now.stations = omega (arith, c.stations.ensures) in
+    let st : c.in-Some.c < (tree_of c.args.map.now).stations = omega (arith, c.stations.ensures) in
     record {
       charted = c.requires.charted;
       room = room_took c.requires.room took;
@@ -135,7 +135,7 @@ returns g c =
     let took = c.in-Some.ensures in
     let room = room_took c.requires.room took in
     let up = c.requires.able.child c.in-Some.c going.more (due took) in
-    let low : c.in-Some.c < c.args.map.now.nodes = omega (arith, c.requires.charted.fits.later _ _ up, c.requires.able.inner.below) in
+    let low : c.in-Some.c < (tree_of c.args.map.now).nodes = omega (arith, c.requires.charted.fits.later _ _ up, c.requires.able.inner.below) in
     let inner : t.stations ≤ c.in-Some.c = omega (arith, c.stations.ensures) in
     let lb : c.in-Some.c < length (vec_items w.base) = omega (arith, low, c.requires.room.base, w.base.ok.0) in
     let lc : c.in-Some.c < length (vec_items w.count) = omega (arith, low, c.requires.room.count, w.count.ok.0) in
