@@ -1,5 +1,6 @@
 -- What a keeper tells of its places, said of stations and nodes.
-use Rattle.std.proofs.Common.{◌≡◌, ℕ, ◌<◌, length, None, Option, sym, ap, ◌∙◌, subst, arith, le-ltb, lt-ltb}
+use Rattle.std.proofs.Common.{◌≡◌, ℕ, ◌<◌, true, false, length, Some, None, Option, MatchOption, sym, ap, ◌∙◌, subst, arith, le-ltb, lt-ltb}
+use Rattle.std.specs.Option.{is_some}
 use Rattle.tree.specs.Tree.{Tree, Runs}
 use Rattle.walk.specs.State.{Changed}
 use Rattle.walk.specs.Rules.{Lowest, Nothing}
@@ -12,6 +13,11 @@ sofar_in t k u h = rw (lt-ltb u t.stations h)
 
 pub held : (t : Tree) (k : Keeps) → Held t (delay_at k) (sofar_of t k)
 held t k = record { at = λ u h. sofar_in t k u h; none = λ u h. rw (le-ltb u t.stations h) }
+
+-- the least of a run, where there is one
+pub some_known : {k : Keeps} {low high : ℕ} (o : Option ℕ) → is_some o ≡ true → MatchOption o (NoDelay k low high) (λ d. LeastFrom k low high d) → (d : ℕ) × LeastFrom k low high d
+some_known None e h = let z : false ≡ true = e in absurd (cc)
+some_known (Some d) e h = (d, h)
 
 pub lowest_of : (t : Tree) (k : Keeps) (c low high d : ℕ) → Runs t → c < t.nodes → low ≡ t.low c → high ≡ t.high c → LeastFrom k low high d
     → Lowest t (sofar_of t k) c d

@@ -1,5 +1,6 @@
 -- Whether a visit goes on, and what is taken in it.
 use Rattle.std.proofs.Common.{◌≡◌, ℕ, ◌+◌, ◌-◌, ◌<◌, Bool, true, false, eqb, List, ◌∷◌, length, Some, None, MatchBool, Option, sym, refl, ap, ◌∙◌, subst, inl, inr, arith, MatchOption}
+use Rattle.std.specs.Option.{is_some}
 use Rattle.std.proofs.lemmas.Bool.{eqb-true, eqb-false, cases_lt}
 use Rattle.std.proofs.lemmas.List.{get_or_past}
 use Rattle.network.specs.Network.{Network}
@@ -17,6 +18,11 @@ use Rattle.settling.specs.declared.trail.Trail.{Trail}
 use Rattle.settling.specs.Means.{base_of, count_of, sofar_of, shelf_of, core_of}
 use Rattle.settling.specs.Asks.{Brought}
 use Rattle.settling.specs.Parts.{Watch, Counting, FoundEmpty, Took}
+
+-- what is there is some number
+pub some_where : (o : Option ℕ) → is_some o ≡ true → (x : ℕ) × (o ≡ Some x)
+some_where None e = let z : false ≡ true = e in absurd (cc)
+some_where (Some x) e = (x, refl)
 
 module _ (t : Tree) (s : Core) (f : Frame) (d : ℕ) (l : Lowest t s.so_far f.node d) (watch : Watch t s.final s.so_far f.node) where
   pub going_root : t.parent f.node ≡ None → Going t s f

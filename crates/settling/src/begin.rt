@@ -11,33 +11,13 @@ use keeper::Keeper;
 use map::map::Map;
 use shelf::Shelf;
 
-/// Sets every delay of a list to none.
-fn forget(list: &mut Vec<Option<u64>>)
-    ensures none { (u : ℕ) → slice_index_or list.new.items u None ≡ None }
-    ensures size { vec_len list.new ≡ vec_len list.old }
-{
-    for i in 0..list.len() {
-        list[i] = None;
-    }
-}
-
-/// Sets every number of a list to 0.
-fn reset(list: &mut Vec<u64>)
-    ensures zero { (u : ℕ) → slice_index list.new.items u ≡ 0 }
-    ensures size { vec_len list.new ≡ vec_len list.old }
-{
-    for i in 0..list.len() {
-        list[i] = 0;
-    }
-}
-
 /// Clears a trail: nothing is visited or expanded, and every counter is at 0.
 pub(crate) fn clear(trail: &mut Trail)
     ensures { Cleared trail.old trail.new }
 {
-    forget(&mut trail.settled);
-    forget(&mut trail.base);
-    reset(&mut trail.count);
+    trail.settled.fill(None);
+    trail.base.fill(None);
+    trail.count.fill(0);
 }
 
 /// The root that holds a station.

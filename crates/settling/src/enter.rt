@@ -44,9 +44,8 @@ pub(crate) fn enter<S: Shelf, K: Keeper>(
     ensures { Entered (tree_of map.now) node p trail.old trail.new (S.Shelf.meaning shelf.old) (S.Shelf.meaning shelf.new)
         (K.Keeper.meaning keeper.now) result }
 {
-    if let Some(_b) = trail.base_of(node) {
-        return frame_of(map, trail, node, p);
+    if trail.base_of(node).is_none() {
+        expand(map, trail, shelf, keeper, node);
     }
-    expand(map, trail, shelf, keeper, node);
     frame_of(map, trail, node, p)
 }

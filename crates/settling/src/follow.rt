@@ -25,12 +25,12 @@ pub(crate) fn other_end(map: &Map, rows: &[Row], service: &[bool], v: u32, k: us
     }
     let row = rows[k];
     if row.from == v {
-        return Some(row.to);
+        Some(row.to)
+    } else if row.to == v {
+        Some(row.from)
+    } else {
+        None
     }
-    if row.to == v {
-        return Some(row.from);
-    }
-    None
 }
 
 /// How many nanoseconds the link `k` takes.
@@ -67,7 +67,7 @@ pub(crate) fn lower_along<S: Shelf, K: Keeper>(
     let Some(u) = other_end(map, rows, service, v, k) else {
         return;
     };
-    if let Some(_) = trail.final_of(u) {
+    if trail.final_of(u).is_some() {
         return;
     }
     let sum = d + u64::from(delay_of(rows, k));

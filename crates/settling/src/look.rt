@@ -28,9 +28,9 @@ pub(crate) fn goes_on<K: Keeper>(map: &Map, trail: &Trail, keeper: &K, f: Frame)
 {
     let low = map.low_of(f.node);
     let high = map.high_of(f.node);
-    let Some(_d) = keeper.least(low, high) else {
+    if keeper.least(low, high).is_none() {
         return false;
-    };
+    }
     let Some(p) = map.parent_of(f.node) else {
         return true;
     };
@@ -61,7 +61,7 @@ pub(crate) fn leave<S: Shelf, K: Keeper>(
     ensures items { (S.Shelf.meaning shelf.new).items ≡ (S.Shelf.meaning shelf.old).items }
     ensures buckets { (S.Shelf.meaning shelf.new).buckets ≡ (S.Shelf.meaning shelf.old).buckets }
 {
-    if let Some(_p) = map.parent_of(f.node) {
+    if map.parent_of(f.node).is_some() {
         bring(map, trail, shelf, keeper, f.node);
     }
 }
@@ -81,12 +81,8 @@ pub(crate) fn take_next<S: Shelf, K: Keeper>(
         (λ c. Took (tree_of map.now) (core_of (tree_of map.now) trail.now (S.Shelf.meaning shelf.old) (K.Keeper.meaning keeper.now)) node c
         (S.Shelf.meaning shelf.old) (S.Shelf.meaning shelf.new)) }
 {
-    let Some(start) = trail.base_of(node) else {
-        return None;
-    };
+    let start = trail.base_of(node)?;
     let k = trail.count_of(node) - start;
-    let Some(b) = map.bucket_at(node, k) else {
-        return None;
-    };
+    let b = map.bucket_at(node, k)?;
     shelf.take(b)
 }

@@ -19,33 +19,13 @@ pub(crate) fn belongs<K: Keeper>(map: &Map, trail: &Trail, keeper: &K, node: u32
     requires ready { Ready (tree_of map.now) (sofar_of (tree_of map.now) (K.Keeper.meaning keeper.now)) (base_of trail.now) node }
     ensures { Belongs (tree_of map.now) (sofar_of (tree_of map.now) (K.Keeper.meaning keeper.now)) (base_of trail.now) node result }
 {
-    let Some(x) = map.parent_of(node) else {
-        return None;
-    };
-    let Some(start) = trail.base_of(x) else {
-        return None;
-    };
+    let x = map.parent_of(node)?;
+    let start = trail.base_of(x)?;
     let low = map.low_of(node);
     let high = map.high_of(node);
-    let Some(d) = keeper.least(low, high) else {
-        return None;
-    };
-    let shift = map.shift_of(x);
-    let k = (d >> shift) - start;
+    let d = keeper.least(low, high)?;
+    let k = (d >> map.shift_of(x)) - start;
     map.bucket_at(x, k)
-}
-
-/// Whether two answers are one.
-fn same(a: Option<u32>, b: Option<u32>) -> bool
-    ensures yes { result ≡ true → a ≡ b }
-    ensures no { result ≡ false → a ≢ b }
-{
-    match (a, b) {
-        (None, None) => true,
-        (Some(x), Some(y)) => x == y,
-        (None, Some(_)) => false,
-        (Some(_), None) => false,
-    }
 }
 
 /// Brings the child `node` to where it belongs, unless it is there.
@@ -67,7 +47,7 @@ pub(crate) fn bring<S: Shelf, K: Keeper>(
 {
     let to = belongs(map, trail, keeper, node);
     let from = shelf.bucket_of(node);
-    if same(from, to) {
+    if from == to {
         return;
     }
     shelf.lift(node);
@@ -86,7 +66,7 @@ pub(crate) fn front(map: &Map, trail: &Trail, station: u32) -> u32
 {
     let mut c = station;
     while let Some(p) = map.parent_of(c) {
-        if let Some(_) = trail.base_of(p) {
+        if trail.base_of(p).is_some() {
             return c;
         }
         c = p;

@@ -59,10 +59,12 @@ pub(crate) fn run_on<'a, S: Shelf, K: Keeper>(
     ensures room { Room map.now trail.new (S.Shelf.meaning shelf.new) (K.Keeper.meaning keeper.new) }
     ensures alike { Alike (S.Shelf.meaning shelf.old) (S.Shelf.meaning shelf.new) (K.Keeper.meaning keeper.old) (K.Keeper.meaning keeper.new) }
 {
-    let mut steps = 0u32;
-    while let Some(f) = frames.top() {
+    // A walk has far fewer steps, so the range never runs out.
+    for _step in 0..u32::MAX {
+        let Some(f) = frames.top() else {
+            return;
+        };
         let turn = step(rows, service, map, trail, shelf, keeper, f);
         turn_to(frames, turn);
-        steps += 1;
     }
 }

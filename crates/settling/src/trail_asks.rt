@@ -3,47 +3,34 @@ ghost use Rattle.settling.specs.Means.{final_of, base_of, count_of, SettledAt, R
 
 use super::trail::Trail;
 
-/// The delay at a place of a list; none past its end.
-fn delay_at(list: &Vec<Option<u64>>, i: usize) -> Option<u64>
-    ensures { result ≡ slice_index_or list.now.items i None }
-{
-    if i < list.len() { list[i] } else { None }
-}
-
 impl Trail {
     /// The delay of a visited station.
     pub(crate) fn final_of(&self, station: u32) -> Option<u64>
         ensures { result ≡ final_of self.now station }
     {
-        delay_at(&self.settled, station as usize)
+        self.settled.get(station as usize).copied().flatten()
     }
 
     /// The base of an expanded node.
     pub(crate) fn base_of(&self, node: u32) -> Option<u64>
         ensures { result ≡ base_of self.now node }
     {
-        delay_at(&self.base, node as usize)
+        self.base.get(node as usize).copied().flatten()
     }
 
     /// The counter of a node.
     pub(crate) fn count_of(&self, node: u32) -> u64
         ensures { result ≡ count_of self.now node }
     {
-        let i = node as usize;
-        if i < self.count.len() {
-            self.count[i]
-        } else {
-            0
-        }
+        self.count.get(node as usize).copied().unwrap_or(0)
     }
 
     /// Makes `d` the delay of a station.
     pub(crate) fn settle(&mut self, station: u32, d: u64)
         ensures { SettledAt self.old self.new station d }
     {
-        let i = station as usize;
-        if i < self.settled.len() {
-            self.settled[i] = Some(d);
+        if let Some(delay) = self.settled.get_mut(station as usize) {
+            *delay = Some(d);
         }
     }
 

@@ -1,22 +1,22 @@
-use Rattle.std.proofs.Common.{sym, refl}
-use Rattle.settling.specs.Turns.{again, first}
+use Rattle.std.proofs.Common.{◌≡◌, None, ap, rules}
+use Rattle.map.specs.Means.{tree_of}
+use Rattle.settling.specs.Means.{base_of}
+use Rattle.settling.specs.Turns.{again, first, beginning}
+use Rattle.settling.proofs.Looks.{some_where}
 use Rattle.settling.proofs.enter.enter.Goals as goal
-
-pub returns-in-Some : goal.returns-in-Some
-returns-in-Some g c = again c.in-Some._b (sym c.in-Some.ensures) refl refl c.frame_of.ensures
-
-pub expand-requires : goal.expand-requires
-expand-requires g c =
-    record {
-      listed = c.requires.listed;
-      tree = c.requires.tree;
-      base = c.requires.base;
-      count = c.requires.count;
-      items = c.requires.items;
-      buckets = c.requires.buckets;
-      kids = c.requires.kids (sym c.in_default.ensures);
-      known = c.requires.known;
-    }
+use Rattle.settling.proofs.enter.enter.Goals.{then-is_none, else-is_none}
 
 pub returns : goal.returns
-returns g c = first (sym c.in_default.ensures) c.expand.ensures c.frame_of-2.ensures
+returns g c =
+    let t = tree_of c.args.map.now in
+    let before = c.args.trail.now in
+    elim c.if-is_none.branch [
+      | then-is_none w ↦
+          let shut : base_of before c.args.node ≡ None = search rules in
+          let frame : c.frame_of.result ≡ beginning t c.args.node c.args.p w.expand.new.trail = rw w.trail-is at c.frame_of.ensures in
+          rw (w.trail-is, w.shelf-is) (first shut w.expand.ensures frame)
+      | else-is_none w ↦
+          let at = some_where (base_of before c.args.node) (search rules) in
+          let frame : c.frame_of.result ≡ beginning t c.args.node c.args.p before = rw w.trail-is at c.frame_of.ensures in
+          again at.0 at.1 w.trail-is (ap g.S.Shelf.meaning w.shelf-is) frame
+    ]

@@ -1,9 +1,10 @@
-use Rattle.std.proofs.Common.{◌≡◌, ◌+◌, ◌<◌, sym, refl, ap, arith, rules}
+use Rattle.std.proofs.Common.{◌≡◌, ◌+◌, ◌<◌, None, refl, ap, arith, rules}
 use Rattle.network.specs.Network.{delay}
 use Rattle.walk.specs.Rules.{skip}
 use Rattle.keeper.specs.Keeps.{Keeps}
 use Rattle.map.specs.Means.{tree_of}
-use Rattle.settling.specs.Means.{network_of}
+use Rattle.settling.specs.Means.{network_of, final_of}
+use Rattle.settling.proofs.Looks.{some_where}
 use Rattle.settling.proofs.Trees.{walkable}
 use Rattle.settling.proofs.Lowers.{hop_end, link_skip, link_keep, lowered_at, link_lower}
 use Rattle.settling.proofs.Rooms.{alike_same}
@@ -12,12 +13,10 @@ use Rattle.settling.proofs.follow.lower_along.Goals as goal
 pub returns-in_default : goal.returns-in_default
 returns-in_default g c = record { link = skip (λ u j. absurd (c.in_default.ensures u j)); alike = alike_same _ _ }
 
-pub returns-in-Some-final_of : goal.returns-in-Some-final_of
-returns-in-Some-final_of g c =
-    record {
-      link = link_skip _ _ _ _ _ c.in-Some.u _ _ c.in-Some.ensures.only (sym c.in-Some-final_of.ensures);
-      alike = alike_same _ _;
-    }
+pub returns-then-is_some : goal.returns-then-is_some
+returns-then-is_some g c =
+    let at = some_where (final_of c.args.trail.now c.in-Some.u) (search rules) in
+    record { link = link_skip _ _ _ _ _ c.in-Some.u _ _ c.in-Some.ensures.only at.1; alike = alike_same _ _ }
 
 pub overflow_add-sum : goal.overflow_add-sum
 overflow_add-sum g c = omega (arith, c.requires.short, c.delay_of.type_inv, c.from.ensures)
@@ -25,16 +24,17 @@ overflow_add-sum g c = omega (arith, c.requires.short, c.delay_of.type_inv, c.fr
 pub front-c-requires : goal.front-c-requires
 front-c-requires g c =
     let j = c.in-Some.ensures.hop in
+    let new : final_of c.args.trail.now c.in-Some.u ≡ None = search rules in
     record {
       tree = walkable c.requires.charted.fits c.requires.charted.runs;
       shut = c.requires.apt.shut c.in-Some.u (hop_end c.requires.charted.fits j);
-      fronted = c.requires.apt.front c.in-Some.u j (sym c.in_default-final_of.ensures);
+      fronted = c.requires.apt.front c.in-Some.u j new;
     }
 
 pub bring-requires : goal.bring-requires
 bring-requires g c =
     let j = c.in-Some.ensures.hop in
-    let new = sym c.in_default-final_of.ensures in
+    let new : final_of c.args.trail.now c.in-Some.u ≡ None = search rules in
     let net = network_of c.args.map.now c.args.rows.now c.args.service.now in
     let is_sum : c.args.d + c.from.result ≡ c.args.d + delay net c.args.k = search rules in
     let lo = c.lower.ensures.done c.if-lower.true in
@@ -55,7 +55,7 @@ bring-requires g c =
 pub returns-then-lower : goal.returns-then-lower
 returns-then-lower g c =
     let j = c.in-Some.ensures.hop in
-    let new = sym c.in_default-final_of.ensures in
+    let new : final_of c.args.trail.now c.in-Some.u ≡ None = search rules in
     let net = network_of c.args.map.now c.args.rows.now c.args.service.now in
     let is_sum : c.args.d + c.from.result ≡ c.args.d + delay net c.args.k = search rules in
     let lo = c.lower.ensures.done c.if-lower.true in
@@ -71,7 +71,7 @@ returns-then-lower g c =
 pub returns-else-lower : goal.returns-else-lower
 returns-else-lower g c =
     let j = c.in-Some.ensures.hop in
-    let new = sym c.in_default-final_of.ensures in
+    let new : final_of c.args.trail.now c.in-Some.u ≡ None = search rules in
     let net = network_of c.args.map.now c.args.rows.now c.args.service.now in
     let is_sum : c.args.d + c.from.result ≡ c.args.d + delay net c.args.k = search rules in
     let hi = c.lower.ensures.refused c.if-lower.false in

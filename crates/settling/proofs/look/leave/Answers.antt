@@ -1,33 +1,17 @@
-use Rattle.std.proofs.Common.{sym, refl}
+use Rattle.std.proofs.Common.{◌≡◌, None, rules}
 use Rattle.map.specs.Means.{tree_of}
-use Rattle.settling.proofs.Looks.{step_leave, step_end}
+use Rattle.settling.proofs.Looks.{step_leave, step_end, some_where}
 use Rattle.settling.proofs.look.leave.Goals as goal
 
-pub bring-requires : goal.bring-requires
-bring-requires g c =
-    record {
-      listed = c.requires.listed;
-      tree = c.requires.tree;
-      items = c.requires.items;
-      buckets = c.requires.buckets;
-      few = c.requires.few;
-      ready = c.requires.ready c.in-Some._p (sym c.in-Some.ensures);
-    }
+pub returns-then-is_some-clause-step : goal.returns-then-is_some-clause-step
+returns-then-is_some-clause-step g c =
+    let t = tree_of c.args.map.now in
+    let up = some_where (t.parent c.args.f.node) (search rules) in
+    λ n fs. step_leave n t c.args.trail.now (g.S.Shelf.meaning c.args.shelf.now) (g.K.Keeper.meaning c.args.keeper.now)
+    c.args.f fs c.requires.ended (g.S.Shelf.meaning c.bring.new.shelf) up.0 up.1 c.requires.free c.bring.ensures
 
-pub returns-in-Some : goal.returns-in-Some
-returns-in-Some g c =
-    record {
-      step = λ n fs. step_leave n (tree_of c.args.map.now) c.args.trail.now (g.S.Shelf.meaning c.args.shelf.now) (g.K.Keeper.meaning c.args.keeper.now)
-          c.args.f fs c.requires.ended (g.S.Shelf.meaning c.bring.new.shelf) c.in-Some._p (sym c.in-Some.ensures) c.requires.free c.bring.ensures;
-      items = c.bring.ensures.items;
-      buckets = c.bring.ensures.buckets;
-    }
-
-pub returns-in_default : goal.returns-in_default
-returns-in_default g c =
-    record {
-      step = λ n fs. step_end n (tree_of c.args.map.now) c.args.trail.now (g.S.Shelf.meaning c.args.shelf.now) (g.K.Keeper.meaning c.args.keeper.now)
-          c.args.f fs c.requires.ended (sym c.in_default.ensures);
-      items = refl;
-      buckets = refl;
-    }
+pub returns-else-is_some-clause-step : goal.returns-else-is_some-clause-step
+returns-else-is_some-clause-step g c =
+    let t = tree_of c.args.map.now in
+    let top : t.parent c.args.f.node ≡ None = search rules in
+    λ n fs. step_end n t c.args.trail.now (g.S.Shelf.meaning c.args.shelf.now) (g.K.Keeper.meaning c.args.keeper.now) c.args.f fs c.requires.ended top

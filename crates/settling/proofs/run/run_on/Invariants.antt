@@ -1,15 +1,14 @@
-use Rattle.std.proofs.Common.{◌≡◌, ◌+◌, ◌-◌, ◌*◌, length}
+use Rattle.std.proofs.Common.{◌≡◌, length}
 use Rattle.stack.specs.Stacked.{downward}
 use Rattle.walk.specs.Steps.{Walk}
-use Rattle.walk.specs.Laws.{in_service}
 use Rattle.map.specs.Means.{tree_of}
 use Rattle.settling.specs.Means.{network_of, core_of}
 use Rattle.settling.specs.Asks.{Room, Alike}
 use Rattle.settling.proofs.run.run_on.Given as goal
 
-abbrev pub invariant-loop-f : goal.invariant-loop-f
-invariant-loop-f g l =
-    Walk (network_of l.map l.rows l.service) (tree_of l.map) l.source l.steps
+abbrev pub invariant-loop-step : goal.invariant-loop-step
+invariant-loop-step g l =
+    Walk (network_of l.map l.rows l.service) (tree_of l.map) l.source l._step
     (record {
       core = core_of (tree_of l.map) l.trail (g.S.Shelf.meaning l.shelf) (g.K.Keeper.meaning l.keeper);
       frames = downward l.frames.room.now l.frames.len;
@@ -17,6 +16,3 @@ invariant-loop-f g l =
     × Room l.map l.trail (g.S.Shelf.meaning l.shelf) (g.K.Keeper.meaning l.keeper)
     × Alike (g.S.Shelf.meaning l.initial.shelf) (g.S.Shelf.meaning l.shelf) (g.K.Keeper.meaning l.initial.keeper) (g.K.Keeper.meaning l.keeper)
     × (length l.frames.room.now ≡ length l.initial.frames.room.now)
-
-abbrev pub decreases-loop-f : goal.decreases-loop-f
-decreases-loop-f g l = 22 * (tree_of l.map).stations + 2 * in_service (network_of l.map l.rows l.service) - l.steps
