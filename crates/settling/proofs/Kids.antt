@@ -1,15 +1,12 @@
 -- Putting the children of a node, one after the other.
-use Rattle.std.proofs.Common.{◌≡◌, ℕ, zero, suc, ◌+◌, ◌<◌, ◌≤◌, List, [], ◌∷◌, length, get_or, take, Some, None, vec_items, Option, sym, refl, ◌∙◌, subst, inl, inr, arith}
+use Rattle.std.proofs.Common.{◌≡◌, ℕ, zero, suc, ◌+◌, ◌<◌, ◌≤◌, List, [], ◌∷◌, length, get_or, take, None, Option, sym, refl, ◌∙◌, subst, inl, inr, arith}
 use Rattle.std.proofs.lemmas.List.{take_more, length-take-le}
 use Rattle.tree.specs.Tree.{Tree, Among, Distinct}
-use Rattle.walk.specs.State.{Changed}
 use Rattle.walk.specs.Rules.{Puts, done, put}
 use Rattle.walk.proofs.Handover.{placed_moved, puts_then, puts_few}
 use Rattle.walk.proofs.Keep.{puts_off}
-use Rattle.walk.proofs.Runs.{changed_set}
 use Rattle.shelf.specs.Holds.{Holds, bucket_at}
-use Rattle.settling.specs.declared.trail.Trail.{Trail}
-use Rattle.settling.specs.Means.{base_of, shelf_of, Opened}
+use Rattle.settling.specs.Means.{shelf_of}
 use Rattle.settling.specs.Asks.{Brought}
 
 pub among_at : (xs : List ℕ) (i : ℕ) → i < length xs → Among (get_or xs i 0) xs
@@ -33,7 +30,3 @@ module _ (t : Tree) (so_far base : ℕ → Option ℕ) (xs : List ℕ) (i : ℕ)
       let here : bucket_at h (get_or xs i 0) ≡ None = puts_off (get_or xs i 0) (not_before xs i once less) puts ∙ free in
       subst (λ (cs : List ℕ). Puts t so_far base cs (shelf_of H) (shelf_of h')) (sym (take_more xs i 0 less))
       (puts_then puts (put br.to br.belongs (placed_moved here br.moved) done))
-
-pub opened_base : (w w' : Trail) (x b : ℕ) → x < length (vec_items w.base) → Opened w w' x b → Changed (base_of w) x (Some b) (base_of w')
-opened_base w w' x b lt o =
-    subst (λ (l : List (Option ℕ)). Changed (base_of w) x (Some b) (λ u. get_or l u None)) (sym o.base) (changed_set (vec_items w.base) x (Some b) None lt)

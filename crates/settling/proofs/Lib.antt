@@ -8,6 +8,7 @@ pub mod Places
 pub mod Rooms
 pub mod Stacks
 pub mod Theory
+pub mod Trails
 pub mod Trees
 pub mod Turns
 pub mod Visits

@@ -16,8 +16,7 @@ pub room_alike : {m : Map} {w : Trail} {h h' : Holds} {k k' : Keeps} → Room m 
 room_alike r a =
     record {
       settled = r.settled;
-      base = r.base;
-      count = r.count;
+      nodes = r.nodes;
       items = omega (arith, r.items, a.items);
       buckets = omega (arith, r.buckets, a.buckets);
       places = omega (arith, r.places, a.places);

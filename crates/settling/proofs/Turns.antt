@@ -1,6 +1,5 @@
 -- The steps, from what their parts promise.
-use Rattle.std.proofs.Common.{◌≡◌, ℕ, ◌+◌, ◌/◌, ◌<◌, ◌≤◌, Bool, true, false, List, ◌∷◌, length, get_or, set, None, vec_items, vec_len, MatchBool, sym, refl, ap, ◌∙◌, subst, inl, inr, add-one, arith}
-use Rattle.std.proofs.lemmas.List.{length-set}
+use Rattle.std.proofs.Common.{◌≡◌, ℕ, ◌/◌, ◌<◌, ◌≤◌, Bool, true, false, List, ◌∷◌, length, get_or, None, vec_items, vec_len, MatchBool, sym, refl, ap, ◌∙◌, subst, inl, inr, add-one, arith}
 use Rattle.std.proofs.lemmas.Bool.{cases_eq}
 use Rattle.network.specs.Network.{Network}
 use Rattle.tree.specs.Tree.{Tree, Fits, width}
@@ -8,7 +7,6 @@ use Rattle.walk.specs.declared.frame.Frame.{Frame}
 use Rattle.walk.specs.State.{Core, State, Changed}
 use Rattle.walk.specs.Steps.{Going, Ended, Step, visit, expand, again, rise}
 use Rattle.walk.specs.Able.{Able, DueNow}
-use Rattle.walk.proofs.Runs.{changed_set}
 use Rattle.shelf.specs.Holds.{Holds, bucket_at}
 use Rattle.keeper.specs.Keeps.{Keeps}
 use Rattle.map.specs.declared.map.Map.{Map}
@@ -18,7 +16,7 @@ use Rattle.settling.specs.Means.{final_of, base_of, count_of, sofar_of, shelf_of
 use Rattle.settling.specs.Asks.{Room, Alike, Visited}
 use Rattle.settling.specs.Parts.{Kids, FoundEmpty, Took}
 use Rattle.settling.specs.Turns.{Entered, again as entered_again, first as entered_first}
-use Rattle.settling.proofs.Kids.{opened_base}
+use Rattle.settling.proofs.Trails.{opened_base, opened_count, risen_base, risen_count, list_long}
 
 pub is_going : (t : Tree) (s : Core) (f : Frame) (r : Bool) → r ≡ true → MatchBool r (Going t s f) (Ended t s f) → Going t s f
 is_going t s f true e h = h
@@ -28,30 +26,25 @@ pub is_ended : (t : Tree) (s : Core) (f : Frame) (r : Bool) → r ≡ false → 
 is_ended t s f true e h = let z : ◌≡◌ {A = ℕ} 0 1 = cc in absurd (omega arith)
 is_ended t s f false e h = h
 
-changed_count : (w w' : Trail) (x n : ℕ) → x < length (vec_items w.count) → vec_items w'.count ≡ set (vec_items w.count) x n
-    → Changed (count_of w) x n (count_of w')
-changed_count w w' x n lt e =
-    subst (λ (l : List ℕ). Changed (count_of w) x n (λ u. get_or l u 0)) (sym e) (changed_set (vec_items w.count) x n 0 lt)
-
 module _ (g : Network) (t : Tree) (w : Trail) (h : Holds) (k : Keeps) (f : Frame) (fs : List Frame) (going : Going t (core_of t w h k) f) where
   abbrev before : State
   before = record { core = core_of t w h k; frames = f ∷ fs }
 
   -- the bucket was empty
-  pub step_rise : (w' : Trail) (h' : Holds) → FoundEmpty t (core_of t w h k) f.node h h' → f.node < length (vec_items w.count) → Risen w w' f.node
+  pub step_rise : (w' : Trail) (h' : Holds) → FoundEmpty t (core_of t w h k) f.node h h' → f.node < length (vec_items w.nodes) → Risen w w' f.node
       → Step g t before (record { core = core_of t w' h' k; frames = f ∷ fs })
   step_rise w' h' e lt r =
       subst (λ (x : State). Step g t before x) (λ i. record {
         core = record {
           final = λ u. get_or (vec_items (sym r.settled i)) u None;
           so_far = sofar_of t k;
-          base = λ x. get_or (vec_items (sym r.base i)) x None;
+          base = λ x. sym (risen_base w w' f.node lt r x) i;
           count = count_of w';
           shelf = shelf_of (sym e.same i);
         };
         frames = f ∷ fs;
       }) (rise f fs e.k (count_of w') refl going e.now e.bare
-      (subst (λ (n : ℕ). Changed (count_of w) f.node n (count_of w')) (add-one (count_of w f.node)) (changed_count w w' f.node (count_of w f.node + 1) lt r.count)))
+      (subst (λ (n : ℕ). Changed (count_of w) f.node n (count_of w')) (add-one (count_of w f.node)) (risen_count w w' f.node lt r)))
 
   -- the station v was taken
   pub step_visit : (v : ℕ) (w' : Trail) (h₁ h' : Holds) (k' : Keeps) → Took t (core_of t w h k) f.node v h h₁ → v < t.stations → Visited g t v w w' h₁ h' k k'
@@ -72,12 +65,11 @@ module _ (g : Network) (t : Tree) (w : Trail) (h : Holds) (k : Keeps) (f : Frame
       })
 
   -- the inner node c was taken
-  pub step_enter : (c : ℕ) (w' : Trail) (h₁ h' : Holds) (e : Frame) → Took t (core_of t w h k) f.node c h h₁ → t.stations ≤ c → c < length (vec_items w.base)
-      → c < length (vec_items w.count) → Entered t c f.node w w' h₁ h' k e → Step g t before (record { core = core_of t w' h' k; frames = e ∷ f ∷ fs })
-  step_enter c w' h₁ h' e took inner lb lc (entered_again β based ew eh er) =
+  pub step_enter : (c : ℕ) (w' : Trail) (h₁ h' : Holds) (e : Frame) → Took t (core_of t w h k) f.node c h h₁ → t.stations ≤ c → c < length (vec_items w.nodes) → Entered t c f.node w w' h₁ h' k e → Step g t before (record { core = core_of t w' h' k; frames = e ∷ f ∷ fs })
+  step_enter c w' h₁ h' e took inner lt (entered_again β based ew eh er) =
       subst (λ (x : State). Step g t before x) (λ i. record { core = core_of t (sym ew i) (sym eh i) k; frames = sym er i ∷ f ∷ fs })
       (again f fs c β (shelf_of h₁) refl going took.taken inner based)
-  step_enter c w' h₁ h' e took inner lb lc (entered_first shut gr er) =
+  step_enter c w' h₁ h' e took inner lt (entered_first shut gr er) =
       subst (λ (x : State). Step g t before x) (λ i. record {
         core = record {
           final = λ u. get_or (vec_items (sym gr.opened.settled i)) u None;
@@ -89,8 +81,8 @@ module _ (g : Network) (t : Tree) (w : Trail) (h : Holds) (k : Keeps) (f : Frame
         frames = sym er i ∷ f ∷ fs;
       }) (expand f fs c gr.d (shelf_of h₁) (base_of w') (count_of w') (shelf_of h') refl going took.taken inner shut (record {
         lowest = gr.lowest;
-        base = opened_base w w' c (gr.d / width t c) lb gr.opened;
-        count = changed_count w w' c (gr.d / width t c) lc gr.opened.count;
+        base = opened_base w w' c lt (gr.d / width t c) gr.opened;
+        count = opened_count w w' c lt (gr.d / width t c) gr.opened;
         puts = gr.puts;
       }))
 
@@ -118,23 +110,18 @@ pub room_took : {m : Map} {w : Trail} {h h₁ : Holds} {k : Keeps} {t : Tree} {s
 room_took r took =
     record {
       settled = r.settled;
-      base = r.base;
-      count = r.count;
+      nodes = r.nodes;
       items = omega (arith, r.items, took.items);
       buckets = omega (arith, r.buckets, took.buckets);
       places = r.places;
     }
 
-list_long : {A : Type 0} (l l' : List A) (i : ℕ) (a : A) → l' ≡ set l i a → length l' ≡ length l
-list_long l l' i a e = ap length e ∙ length-set l i a
-
 pub room_risen : {m : Map} {w w' : Trail} {h h' : Holds} {k : Keeps} {x : ℕ} → Room m w h k → Risen w w' x → h' ≡ h → Room m w' h' k
 room_risen {m} {w} {w'} {h} {h'} {x = x} r s e =
-    let n = list_long (vec_items w.count) (vec_items w'.count) x _ s.count in
+    let n = list_long (vec_items w.nodes) (vec_items w'.nodes) x _ s.nodes in
     record {
       settled = subst (λ (b : _). (tree_of m).stations ≤ vec_len b) (sym s.settled) r.settled;
-      base = subst (λ (b : _). (tree_of m).nodes ≤ vec_len b) (sym s.base) r.base;
-      count = omega (arith, r.count, n, w.count.ok.0, w'.count.ok.0);
+      nodes = omega (arith, r.nodes, n, w.nodes.ok.0, w'.nodes.ok.0);
       items = omega (arith, r.items, ap (λ (z : Holds). z.items) e);
       buckets = omega (arith, r.buckets, ap (λ (z : Holds). z.buckets) e);
       places = r.places;
@@ -143,12 +130,10 @@ room_risen {m} {w} {w'} {h} {h'} {x = x} r s e =
 pub room_opened : {m : Map} {w w' : Trail} {h h' : Holds} {k : Keeps} {x b : ℕ} → Room m w h k → Opened w w' x b → h'.items ≡ h.items → h'.buckets ≡ h.buckets
     → Room m w' h' k
 room_opened {m} {w} {w'} {x = x} r s e₁ e₂ =
-    let n = list_long (vec_items w.count) (vec_items w'.count) x _ s.count in
-    let l = list_long (vec_items w.base) (vec_items w'.base) x _ s.base in
+    let n = list_long (vec_items w.nodes) (vec_items w'.nodes) x _ s.nodes in
     record {
       settled = subst (λ (b : _). (tree_of m).stations ≤ vec_len b) (sym s.settled) r.settled;
-      base = omega (arith, r.base, l, w.base.ok.0, w'.base.ok.0);
-      count = omega (arith, r.count, n, w.count.ok.0, w'.count.ok.0);
+      nodes = omega (arith, r.nodes, n, w.nodes.ok.0, w'.nodes.ok.0);
       items = omega (arith, r.items, e₁);
       buckets = omega (arith, r.buckets, e₂);
       places = r.places;

@@ -10,7 +10,7 @@ use Rattle.keeper.specs.Keeps.{Keeps, LeastFrom, delay_at}
 use Rattle.map.specs.declared.map.Map.{Map}
 use Rattle.map.specs.Means.{tree_of}
 use Rattle.settling.specs.declared.trail.Trail.{Trail}
-use Rattle.settling.specs.Means.{final_of, sofar_of, shelf_of, core_of, SettledAt}
+use Rattle.settling.specs.Means.{final_of, sofar_of, shelf_of, core_of, no_progress, SettledAt}
 use Rattle.settling.specs.Asks.{Room}
 use Rattle.settling.proofs.Keepers.{sofar_in}
 
@@ -33,8 +33,8 @@ called_is t w w' h k k₁ v d m =
     λ i. record {
       final = final_of w';
       so_far = sofar_of t k₁;
-      base = λ x. get_or (vec_items (sym m.base i)) x None;
-      count = λ x. get_or (vec_items (sym m.count i)) x 0;
+      base = λ x. (get_or (vec_items (sym m.nodes i)) x no_progress).base;
+      count = λ x. (get_or (vec_items (sym m.nodes i)) x no_progress).count;
       shelf = shelf_of h;
     }
 
@@ -44,8 +44,7 @@ room_settled {m} {w} {w'} {v = v} {d = d} r s e =
     let n : length (vec_items w'.settled) ≡ length (vec_items w.settled) = ap length s.settled ∙ length-set (vec_items w.settled) v (Some d) in
     record {
       settled = omega (arith, r.settled, n, w.settled.ok.0, w'.settled.ok.0);
-      base = subst (λ (b : _). (tree_of m).nodes ≤ vec_len b) (sym s.base) r.base;
-      count = subst (λ (b : _). (tree_of m).nodes ≤ vec_len b) (sym s.count) r.count;
+      nodes = subst (λ (b : _). (tree_of m).nodes ≤ vec_len b) (sym s.nodes) r.nodes;
       items = r.items;
       buckets = r.buckets;
       places = omega (arith, r.places, e);

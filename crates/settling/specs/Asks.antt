@@ -22,8 +22,7 @@ pub record Charted (g : Network) (m : Map) : Type 0 where
 -- trail, shelf and keeper have room for the map; nothing that a walk does changes this
 pub record Room (m : Map) (w : Trail) (h : Holds) (k : Keeps) : Type 0 where
   pub settled : (tree_of m).stations ≤ vec_len w.settled
-  pub base : (tree_of m).nodes ≤ vec_len w.base
-  pub count : (tree_of m).nodes ≤ vec_len w.count
+  pub nodes : (tree_of m).nodes ≤ vec_len w.nodes
   pub items : (tree_of m).nodes ≤ h.items
   pub buckets : buckets_in_all (tree_of m) ≤ h.buckets
   pub places : (tree_of m).stations ≤ k.places

@@ -9,5 +9,4 @@ pub record Cleared (w w' : Trail) : Type 0 where
   pub base : (x : ℕ) → base_of w' x ≡ None
   pub count : (x : ℕ) → count_of w' x ≡ 0
   pub settled_size : vec_len w'.settled ≡ vec_len w.settled
-  pub base_size : vec_len w'.base ≡ vec_len w.base
-  pub count_size : vec_len w'.count ≡ vec_len w.count
+  pub nodes_size : vec_len w'.nodes ≡ vec_len w.nodes

@@ -1,5 +1,5 @@
 -- What map, trail, shelf and keeper stand for in the words of the walk.
-use Rattle.std.specs.Prelude.{◌≡◌, ℕ, ◌+◌, Bool, cond, List, Some, None, vec_items, Option, nat_lt, slice_index, slice_index_or, slice_set}
+use Rattle.std.specs.Prelude.{◌≡◌, ℕ, ◌+◌, Bool, cond, List, Some, None, vec_items, Option, nat_lt, slice_index_or, slice_set}
 use Rattle.network.specs.declared.row.Row.{Row}
 use Rattle.network.specs.Network.{Network}
 use Rattle.tree.specs.Tree.{Tree}
@@ -8,6 +8,7 @@ use Rattle.shelf.specs.Holds.{Holds, bucket_at}
 use Rattle.keeper.specs.Keeps.{Keeps, delay_at}
 use Rattle.map.specs.declared.map.Map.{Map}
 use Rattle.map.specs.Means.{tree_of}
+use Rattle.settling.specs.declared.progress.Progress.{Progress}
 use Rattle.settling.specs.declared.trail.Trail.{Trail}
 
 -- the stations of a map, and links over them
@@ -17,11 +18,18 @@ network_of m rows service = record { stations = (tree_of m).stations; rows = row
 abbrev pub final_of : Trail → ℕ → Option ℕ
 final_of w u = slice_index_or (vec_items w.settled) u None
 
+-- what stands past the last node
+abbrev pub no_progress : Progress
+no_progress = record { base = None; count = 0 }
+
+abbrev pub progress : Trail → ℕ → Progress
+progress w x = slice_index_or (vec_items w.nodes) x no_progress
+
 abbrev pub base_of : Trail → ℕ → Option ℕ
-base_of w x = slice_index_or (vec_items w.base) x None
+base_of w x = (progress w x).base
 
 abbrev pub count_of : Trail → ℕ → ℕ
-count_of w x = slice_index (vec_items w.count) x
+count_of w x = (progress w x).count
 
 -- what a keeper knows of a station stands at its place
 abbrev pub sofar_of : Tree → Keeps → ℕ → Option ℕ
@@ -36,17 +44,14 @@ core_of t w h k = record { final = final_of w; so_far = sofar_of t k; base = bas
 -- d was made the delay of v
 pub record SettledAt (w w' : Trail) (v d : ℕ) : Type 0 where
   pub settled : vec_items w'.settled ≡ slice_set (vec_items w.settled) v (Some d)
-  pub base : w'.base ≡ w.base
-  pub count : w'.count ≡ w.count
+  pub nodes : w'.nodes ≡ w.nodes
 
 -- the counter of x rose by one
 pub record Risen (w w' : Trail) (x : ℕ) : Type 0 where
-  pub count : vec_items w'.count ≡ slice_set (vec_items w.count) x (count_of w x + 1)
+  pub nodes : vec_items w'.nodes ≡ slice_set (vec_items w.nodes) x (record { base = base_of w x; count = count_of w x + 1 })
   pub settled : w'.settled ≡ w.settled
-  pub base : w'.base ≡ w.base
 
 -- x was expanded, with the base b
 pub record Opened (w w' : Trail) (x b : ℕ) : Type 0 where
-  pub base : vec_items w'.base ≡ slice_set (vec_items w.base) x (Some b)
-  pub count : vec_items w'.count ≡ slice_set (vec_items w.count) x b
+  pub nodes : vec_items w'.nodes ≡ slice_set (vec_items w.nodes) x (record { base = Some b; count = b })
   pub settled : w'.settled ≡ w.settled

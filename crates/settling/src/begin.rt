@@ -6,6 +6,7 @@ ghost use Rattle.settling.specs.Means.{core_of};
 ghost use Rattle.settling.specs.Asks.{Walkable};
 ghost use Rattle.settling.specs.Begins.{Cleared};
 
+use super::progress::Progress;
 use super::trail::Trail;
 use keeper::Keeper;
 use map::map::Map;
@@ -16,8 +17,7 @@ pub(crate) fn clear(trail: &mut Trail)
     ensures { Cleared trail.old trail.new }
 {
     trail.settled.fill(None);
-    trail.base.fill(None);
-    trail.count.fill(0);
+    trail.nodes.fill(Progress::default());
 }
 
 /// The root that holds a station.

@@ -35,8 +35,7 @@ pub(crate) fn enter<S: Shelf, K: Keeper>(
 ) -> Frame
     requires listed { node < (tree_of map.now).nodes }
     requires tree { Walkable (tree_of map.now) }
-    requires base { (tree_of map.now).nodes ≤ vec_len trail.old.base }
-    requires count { (tree_of map.now).nodes ≤ vec_len trail.old.count }
+    requires nodes { (tree_of map.now).nodes ≤ vec_len trail.old.nodes }
     requires items { (tree_of map.now).nodes ≤ (S.Shelf.meaning shelf.old).items }
     requires buckets { buckets_in_all (tree_of map.now) ≤ (S.Shelf.meaning shelf.old).buckets }
     requires kids { base_of trail.old node ≡ None → Kids (tree_of map.now) node (S.Shelf.meaning shelf.old) }

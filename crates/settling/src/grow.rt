@@ -48,8 +48,7 @@ pub(crate) fn expand<S: Shelf, K: Keeper>(
 )
     requires listed { node < (tree_of map.now).nodes }
     requires tree { Walkable (tree_of map.now) }
-    requires base { (tree_of map.now).nodes ≤ vec_len trail.old.base }
-    requires count { (tree_of map.now).nodes ≤ vec_len trail.old.count }
+    requires nodes { (tree_of map.now).nodes ≤ vec_len trail.old.nodes }
     requires items { (tree_of map.now).nodes ≤ (S.Shelf.meaning shelf.old).items }
     requires buckets { buckets_in_all (tree_of map.now) ≤ (S.Shelf.meaning shelf.old).buckets }
     requires kids { Kids (tree_of map.now) node (S.Shelf.meaning shelf.old) }

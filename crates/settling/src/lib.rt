@@ -10,6 +10,7 @@ mod follow;
 mod grow;
 mod look;
 mod place;
+mod progress;
 mod run;
 mod step;
 mod trail;

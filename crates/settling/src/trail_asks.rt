@@ -1,6 +1,7 @@
 ghost use Rattle.std.specs.Prelude.{◌≡◌, ◌+◌, ◌^◌, ◌<◌, None, vec_len, slice_index_or};
 ghost use Rattle.settling.specs.Means.{final_of, base_of, count_of, SettledAt, Risen, Opened};
 
+use super::progress::Progress;
 use super::trail::Trail;
 
 impl Trail {
@@ -15,14 +16,14 @@ impl Trail {
     pub(crate) fn base_of(&self, node: u32) -> Option<u64>
         ensures { result ≡ base_of self.now node }
     {
-        self.base.get(node as usize).copied().flatten()
+        self.nodes.get(node as usize).and_then(|at| at.base)
     }
 
     /// The counter of a node.
     pub(crate) fn count_of(&self, node: u32) -> u64
         ensures { result ≡ count_of self.now node }
     {
-        self.count.get(node as usize).copied().unwrap_or(0)
+        self.nodes.get(node as usize).map_or(0, |at| at.count)
     }
 
     /// Makes `d` the delay of a station.
@@ -36,20 +37,21 @@ impl Trail {
 
     /// Raises the counter of a node by one.
     pub(crate) fn rise(&mut self, node: u32)
-        requires listed { node < vec_len self.old.count }
+        requires listed { node < vec_len self.old.nodes }
         requires fits { count_of self.old node + 1 < 2 ^ 64 }
         ensures { Risen self.old self.new node }
     {
-        self.count[node as usize] += 1;
+        self.nodes[node as usize].count += 1;
     }
 
     /// Expands a node: `b` is its base and its counter.
     pub(crate) fn open(&mut self, node: u32, b: u64)
-        requires base { node < vec_len self.old.base }
-        requires count { node < vec_len self.old.count }
+        requires { node < vec_len self.old.nodes }
         ensures { Opened self.old self.new node b }
     {
-        self.base[node as usize] = Some(b);
-        self.count[node as usize] = b;
+        self.nodes[node as usize] = Progress {
+            base: Some(b),
+            count: b,
+        };
     }
 }

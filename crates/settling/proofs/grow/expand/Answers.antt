@@ -3,7 +3,7 @@ use Rattle.walk.proofs.Handover.{child_ready}
 use Rattle.map.specs.Means.{tree_of}
 use Rattle.settling.specs.Means.{Opened}
 use Rattle.settling.proofs.Keepers.{lowest_of, nothing_of}
-use Rattle.settling.proofs.Kids.{opened_base}
+use Rattle.settling.proofs.Trails.{opened_base}
 use Rattle.settling.proofs.grow.expand.Goals as goal
 
 pub returns-in_default : goal.returns-in_default
@@ -20,13 +20,13 @@ put_children-requires g c =
     let op =
     subst (λ (b : ℕ). Opened c.args.trail.now c.open.new.self c.args.node b) (ap (λ (s : ℕ). c.in-Some.d / 2 ^ s) c.shift_of.ensures.is)
     c.open.ensures in
-    let lt : c.args.node < length (vec_items c.args.trail.now.base) = omega (arith, c.requires.listed, c.requires.base, c.args.trail.now.base.ok.0) in
+    let lt : c.args.node < length (vec_items c.args.trail.now.nodes) = omega (arith, c.requires.listed, c.requires.nodes, c.args.trail.now.nodes.ok.0) in
     record {
       tree = c.requires.tree;
       items = c.requires.items;
       buckets = c.requires.buckets;
       kids = c.requires.kids;
-      ready = λ x up. child_ready lo (opened_base _ _ _ _ lt op) up;
+      ready = λ x up. child_ready lo (opened_base _ _ _ lt _ op) up;
     }
 
 pub returns : goal.returns

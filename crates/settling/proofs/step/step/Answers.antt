@@ -46,7 +46,7 @@ rise-requires g c =
     let h = g.S.Shelf.meaning c.args.shelf.now in
     let e : c.goes_on.result ≡ true = search rules in
     let going = is_going t (core_of t c.args.trail.now h (g.K.Keeper.meaning c.args.keeper.now)) c.args.f c.goes_on.result e (c.goes_on.ensures h) in
-    record { listed = omega (arith, c.requires.able.inner.below, c.requires.room.count); fits = c.requires.short going.more }
+    record { listed = omega (arith, c.requires.able.inner.below, c.requires.room.nodes); fits = c.requires.short going.more }
 
 pub returns-in_default : goal.returns-in_default
 returns-in_default g c =
@@ -57,7 +57,7 @@ returns-in_default g c =
     let e : c.goes_on.result ≡ true = search rules in
     let going = is_going t (core_of t w h k) c.args.f c.goes_on.result e (c.goes_on.ensures h) in
     let found = c.in_default.ensures in
-    let lt : c.args.f.node < length (vec_items w.count) = omega (arith, c.requires.able.inner.below, c.requires.room.count, w.count.ok.0) in
+    let lt : c.args.f.node < length (vec_items w.nodes) = omega (arith, c.requires.able.inner.below, c.requires.room.nodes, w.nodes.ok.0) in
     record {
       step = λ fs. step_rise (network_of c.args.map.now c.args.rows.now c.args.service.now) t w h k c.args.f fs going c.rise.new.self
           (g.S.Shelf.meaning c.take_next.new.shelf) found lt c.rise.ensures;
@@ -114,8 +114,7 @@ enter-requires g c =
     record {
       listed = omega (arith, c.requires.charted.fits.later _ _ up, c.requires.able.inner.below);
       tree = walkable c.requires.charted.fits c.requires.charted.runs;
-      base = room.base;
-      count = room.count;
+      nodes = room.nodes;
       items = room.items;
       buckets = room.buckets;
       kids = λ shut. kids_of (network_of c.args.map.now c.args.rows.now c.args.service.now) t w h h₁ k c.args.f c.in-Some.c
@@ -137,11 +136,10 @@ returns g c =
     let up = c.requires.able.child c.in-Some.c going.more (due took) in
     let low : c.in-Some.c < (tree_of c.args.map.now).nodes = omega (arith, c.requires.charted.fits.later _ _ up, c.requires.able.inner.below) in
     let inner : t.stations ≤ c.in-Some.c = omega (arith, c.stations.ensures) in
-    let lb : c.in-Some.c < length (vec_items w.base) = omega (arith, low, c.requires.room.base, w.base.ok.0) in
-    let lc : c.in-Some.c < length (vec_items w.count) = omega (arith, low, c.requires.room.count, w.count.ok.0) in
+    let lt : c.in-Some.c < length (vec_items w.nodes) = omega (arith, low, c.requires.room.nodes, w.nodes.ok.0) in
     record {
       step = λ fs. step_enter (network_of c.args.map.now c.args.rows.now c.args.service.now) t w h k c.args.f fs going c.in-Some.c
-          c.enter.new.trail h₁ (g.S.Shelf.meaning c.enter.new.shelf) c.enter.result took inner lb lc c.enter.ensures;
+          c.enter.new.trail h₁ (g.S.Shelf.meaning c.enter.new.shelf) c.enter.result took inner lt c.enter.ensures;
       room = room_entered room c.enter.ensures;
       alike = alike_then (record { items = took.items; buckets = took.buckets; places = refl }) (alike_entered c.enter.ensures);
     }
