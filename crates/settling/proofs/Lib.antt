@@ -6,6 +6,7 @@ pub mod Looks
 pub mod Lowers
 pub mod Places
 pub mod Rooms
+pub mod Schemes
 pub mod Stacks
 pub mod Theory
 pub mod Trails

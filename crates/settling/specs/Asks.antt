@@ -1,6 +1,8 @@
 -- What the parts of a visit ask of each other, and what they promise.
 use Rattle.std.specs.Prelude.{◌≡◌, ℕ, ◌+◌, ◌^◌, ◌<◌, ◌≤◌, ◌≢◌, length, Some, None, vec_len, Option}
 use Rattle.network.specs.Network.{Network, Hop}
+use Rattle.network.specs.Schemes.{network_of}
+use Rattle.network.specs.declared.scheme.Scheme.{Scheme}
 use Rattle.tree.specs.Tree.{Tree, Fits, Sized, Runs, buckets_in_all}
 use Rattle.walk.specs.State.{Core, called}
 use Rattle.walk.specs.Rules.{Belongs, Moved, Call, Links}
@@ -12,10 +14,9 @@ use Rattle.map.specs.Means.{tree_of}
 use Rattle.settling.specs.declared.trail.Trail.{Trail}
 use Rattle.settling.specs.Means.{final_of, shelf_of, core_of, SettledAt}
 
--- the map is a tree of the network
-pub record Charted (g : Network) (m : Map) : Type 0 where
-  pub service : length g.service ≡ length g.rows
-  pub fits : Fits g (tree_of m)
+-- the map is a tree of the network that the scheme describes
+pub record Charted (scheme : Scheme) (m : Map) : Type 0 where
+  pub fits : Fits (network_of scheme) (tree_of m)
   pub sized : Sized (tree_of m)
   pub runs : Runs (tree_of m)
 

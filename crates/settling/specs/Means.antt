@@ -1,19 +1,11 @@
 -- What map, trail, shelf and keeper stand for in the words of the walk.
-use Rattle.std.specs.Prelude.{◌≡◌, ℕ, ◌+◌, Bool, cond, List, Some, None, vec_items, Option, nat_lt, slice_index_or, slice_set}
-use Rattle.network.specs.declared.row.Row.{Row}
-use Rattle.network.specs.Network.{Network}
+use Rattle.std.specs.Prelude.{◌≡◌, ℕ, ◌+◌, cond, Some, None, vec_items, Option, nat_lt, slice_index_or, slice_set}
 use Rattle.tree.specs.Tree.{Tree}
 use Rattle.walk.specs.State.{Shelf, Core}
 use Rattle.shelf.specs.Holds.{Holds, bucket_at}
 use Rattle.keeper.specs.Keeps.{Keeps, delay_at}
-use Rattle.map.specs.declared.map.Map.{Map}
-use Rattle.map.specs.Means.{tree_of}
 use Rattle.settling.specs.declared.progress.Progress.{Progress}
 use Rattle.settling.specs.declared.trail.Trail.{Trail}
-
--- the stations of a map, and links over them
-abbrev pub network_of : Map → List Row → List Bool → Network
-network_of m rows service = record { stations = (tree_of m).stations; rows = rows; service = service }
 
 abbrev pub final_of : Trail → ℕ → Option ℕ
 final_of w u = slice_index_or (vec_items w.settled) u None

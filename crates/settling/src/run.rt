@@ -3,8 +3,9 @@ ghost use Rattle.stack.specs.Stacked.{downward};
 ghost use Rattle.walk.specs.declared.frame.Frame.{Frame as FrameOf};
 ghost use Rattle.walk.specs.Steps.{Walk};
 ghost use Rattle.walk.specs.Laws.{Run};
+ghost use Rattle.network.specs.Schemes.{network_of};
 ghost use Rattle.map.specs.Means.{tree_of};
-ghost use Rattle.settling.specs.Means.{network_of, core_of};
+ghost use Rattle.settling.specs.Means.{core_of};
 ghost use Rattle.settling.specs.Asks.{Charted, Room, Alike};
 ghost use Rattle.settling.specs.Turns.{after};
 
@@ -13,7 +14,7 @@ use super::trail::Trail;
 use super::turn::Turn;
 use keeper::Keeper;
 use map::map::Map;
-use network::row::Row;
+use network::scheme::Scheme;
 use shelf::Shelf;
 use stack::Stack;
 use walk::frame::Frame;
@@ -38,8 +39,7 @@ fn turn_to<'a>(frames: &mut Stack<'a, Frame>, turn: Turn)
 
 /// Takes steps until no visit is under way.
 pub(crate) fn run_on<'a, S: Shelf, K: Keeper>(
-    rows: &[Row],
-    service: &[bool],
+    scheme: &Scheme,
     map: &Map,
     trail: &mut Trail,
     shelf: &mut S,
@@ -47,14 +47,13 @@ pub(crate) fn run_on<'a, S: Shelf, K: Keeper>(
     frames: &mut Stack<'a, Frame>,
     source: u32,
 )
-    requires charted { Charted (network_of map.now rows.now service.now) map.now }
-    requires few { length rows.now ≤ 2048 }
+    requires charted { Charted scheme.now map.now }
     requires source { source < (tree_of map.now).stations }
     requires room { Room map.now trail.old (S.Shelf.meaning shelf.old) (K.Keeper.meaning keeper.old) }
     requires space { 33 ≤ length frames.old.room.now }
-    requires begun { Walk (network_of map.now rows.now service.now) (tree_of map.now) source 0
+    requires begun { Walk (network_of scheme.now) (tree_of map.now) source 0
         (record { core = core_of (tree_of map.now) trail.old (S.Shelf.meaning shelf.old) (K.Keeper.meaning keeper.old); frames = downward frames.old.room.now frames.old.len }) }
-    ensures run { Run (network_of map.now rows.now service.now) (tree_of map.now) source
+    ensures run { Run (network_of scheme.now) (tree_of map.now) source
         (record { core = core_of (tree_of map.now) trail.new (S.Shelf.meaning shelf.new) (K.Keeper.meaning keeper.new); frames = [] }) }
     ensures room { Room map.now trail.new (S.Shelf.meaning shelf.new) (K.Keeper.meaning keeper.new) }
     ensures alike { Alike (S.Shelf.meaning shelf.old) (S.Shelf.meaning shelf.new) (K.Keeper.meaning keeper.old) (K.Keeper.meaning keeper.new) }
@@ -64,7 +63,7 @@ pub(crate) fn run_on<'a, S: Shelf, K: Keeper>(
         let Some(f) = frames.top() else {
             return;
         };
-        let turn = step(rows, service, map, trail, shelf, keeper, f);
+        let turn = step(scheme, map, trail, shelf, keeper, f);
         turn_to(frames, turn);
     }
 }

@@ -3,8 +3,9 @@ ghost use Rattle.walk.specs.declared.frame.Frame.{Frame as FrameOf};
 ghost use Rattle.walk.specs.Steps.{Open, Going, Taken, Step};
 ghost use Rattle.walk.specs.Able.{Able};
 ghost use Rattle.shelf.specs.Holds.{Holds};
+ghost use Rattle.network.specs.Schemes.{network_of};
 ghost use Rattle.map.specs.Means.{tree_of};
-ghost use Rattle.settling.specs.Means.{network_of, final_of, count_of, shelf_of, core_of};
+ghost use Rattle.settling.specs.Means.{final_of, count_of, shelf_of, core_of};
 ghost use Rattle.settling.specs.Asks.{Charted, Room, Alike, Callable};
 ghost use Rattle.settling.specs.Turns.{after};
 
@@ -15,29 +16,28 @@ use super::turn::Turn;
 use super::visit::visit_station;
 use keeper::Keeper;
 use map::map::Map;
-use network::row::Row;
+use network::scheme::Scheme;
 use shelf::Shelf;
 use walk::frame::Frame;
 
 /// Takes one step of the walk, whose innermost visit is `f`, and tells what becomes of the visits under way.
 pub(crate) fn step<S: Shelf, K: Keeper>(
-    rows: &[Row],
-    service: &[bool],
+    scheme: &Scheme,
     map: &Map,
     trail: &mut Trail,
     shelf: &mut S,
     keeper: &mut K,
     f: Frame,
 ) -> Turn
-    requires charted { Charted (network_of map.now rows.now service.now) map.now }
+    requires charted { Charted scheme.now map.now }
     requires room { Room map.now trail.old (S.Shelf.meaning shelf.old) (K.Keeper.meaning keeper.old) }
     requires able { Able (tree_of map.now) (core_of (tree_of map.now) trail.old (S.Shelf.meaning shelf.old) (K.Keeper.meaning keeper.old)) f }
     requires short { Open (tree_of map.now) (final_of trail.old) f.node → count_of trail.old f.node + 1 < 2 ^ 64 }
     requires callable { (v : ℕ) (h : Holds)
         → Going (tree_of map.now) (core_of (tree_of map.now) trail.old (S.Shelf.meaning shelf.old) (K.Keeper.meaning keeper.old)) f
         → Taken (tree_of map.now) (core_of (tree_of map.now) trail.old (S.Shelf.meaning shelf.old) (K.Keeper.meaning keeper.old)) f.node v (shelf_of h) → v < (tree_of map.now).stations
-        → Callable (network_of map.now rows.now service.now) (tree_of map.now) (core_of (tree_of map.now) trail.old h (K.Keeper.meaning keeper.old)) v }
-    ensures step { (fs : List FrameOf) → Step (network_of map.now rows.now service.now) (tree_of map.now)
+        → Callable (network_of scheme.now) (tree_of map.now) (core_of (tree_of map.now) trail.old h (K.Keeper.meaning keeper.old)) v }
+    ensures step { (fs : List FrameOf) → Step (network_of scheme.now) (tree_of map.now)
         (record { core = core_of (tree_of map.now) trail.old (S.Shelf.meaning shelf.old) (K.Keeper.meaning keeper.old); frames = f ∷ fs })
         (record { core = core_of (tree_of map.now) trail.new (S.Shelf.meaning shelf.new) (K.Keeper.meaning keeper.new); frames = after result f fs }) }
     ensures room { Room map.now trail.new (S.Shelf.meaning shelf.new) (K.Keeper.meaning keeper.new) }
@@ -52,7 +52,7 @@ pub(crate) fn step<S: Shelf, K: Keeper>(
         return Turn::Stay;
     };
     if c < map.stations() {
-        visit_station(rows, service, map, trail, shelf, keeper, c);
+        visit_station(scheme, map, trail, shelf, keeper, c);
         return Turn::Stay;
     }
     Turn::Enter(enter(map, trail, shelf, keeper, c, f.node))

@@ -2,8 +2,9 @@ use Rattle.std.proofs.Common.{◌≡◌, ◌+◌, ◌<◌, None, refl, ap, arith
 use Rattle.network.specs.Network.{delay}
 use Rattle.walk.specs.Rules.{skip}
 use Rattle.keeper.specs.Keeps.{Keeps}
+use Rattle.network.specs.Schemes.{network_of}
 use Rattle.map.specs.Means.{tree_of}
-use Rattle.settling.specs.Means.{network_of, final_of}
+use Rattle.settling.specs.Means.{final_of}
 use Rattle.settling.proofs.Looks.{some_where}
 use Rattle.settling.proofs.Trees.{walkable}
 use Rattle.settling.proofs.Lowers.{hop_end, link_skip, link_keep, lowered_at, link_lower}
@@ -35,7 +36,7 @@ pub bring-requires : goal.bring-requires
 bring-requires g c =
     let j = c.in-Some.ensures.hop in
     let new : final_of c.args.trail.now c.in-Some.u ≡ None = search rules in
-    let net = network_of c.args.map.now c.args.rows.now c.args.service.now in
+    let net = network_of c.args.scheme.now in
     let is_sum : c.args.d + c.from.result ≡ c.args.d + delay net c.args.k = search rules in
     let lo = c.lower.ensures.done c.if-lower.true in
     record {
@@ -56,7 +57,7 @@ pub returns-then-lower : goal.returns-then-lower
 returns-then-lower g c =
     let j = c.in-Some.ensures.hop in
     let new : final_of c.args.trail.now c.in-Some.u ≡ None = search rules in
-    let net = network_of c.args.map.now c.args.rows.now c.args.service.now in
+    let net = network_of c.args.scheme.now in
     let is_sum : c.args.d + c.from.result ≡ c.args.d + delay net c.args.k = search rules in
     let lo = c.lower.ensures.done c.if-lower.true in
     record {
@@ -72,7 +73,7 @@ pub returns-else-lower : goal.returns-else-lower
 returns-else-lower g c =
     let j = c.in-Some.ensures.hop in
     let new : final_of c.args.trail.now c.in-Some.u ≡ None = search rules in
-    let net = network_of c.args.map.now c.args.rows.now c.args.service.now in
+    let net = network_of c.args.scheme.now in
     let is_sum : c.args.d + c.from.result ≡ c.args.d + delay net c.args.k = search rules in
     let hi = c.lower.ensures.refused c.if-lower.false in
     let st = hop_end c.requires.charted.fits j in

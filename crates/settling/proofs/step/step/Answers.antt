@@ -1,7 +1,8 @@
 use Rattle.std.proofs.Common.{◌≡◌, ◌<◌, ◌≤◌, true, false, length, vec_items, refl, ap, arith, rules}
 use Rattle.shelf.specs.Holds.{Holds}
+use Rattle.network.specs.Schemes.{network_of}
 use Rattle.map.specs.Means.{tree_of}
-use Rattle.settling.specs.Means.{network_of, core_of}
+use Rattle.settling.specs.Means.{core_of}
 use Rattle.settling.proofs.Trees.{walkable}
 use Rattle.settling.proofs.Rooms.{room_alike, alike_then}
 use Rattle.settling.proofs.Visits.{room_settled}
@@ -59,7 +60,7 @@ returns-in_default g c =
     let found = c.in_default.ensures in
     let lt : c.args.f.node < length (vec_items w.nodes) = omega (arith, c.requires.able.inner.below, c.requires.room.nodes, w.nodes.ok.0) in
     record {
-      step = λ fs. step_rise (network_of c.args.map.now c.args.rows.now c.args.service.now) t w h k c.args.f fs going c.rise.new.self
+      step = λ fs. step_rise (network_of c.args.scheme.now) t w h k c.args.f fs going c.rise.new.self
           (g.S.Shelf.meaning c.take_next.new.shelf) found lt c.rise.ensures;
       room = room_risen c.requires.room c.rise.ensures found.same;
       alike = record { items = ap (λ (z : Holds). z.items) found.same; buckets = ap (λ (z : Holds). z.buckets) found.same; places = refl };
@@ -92,7 +93,7 @@ returns-then-c-stations g c =
     let st : c.in-Some.c < t.stations = omega (arith, c.stations.ensures) in
     let alike = alike_then (record { items = took.items; buckets = took.buckets; places = refl }) c.visit_station.ensures.alike in
     record {
-      step = λ fs. step_visit (network_of c.args.map.now c.args.rows.now c.args.service.now) t w h k c.args.f fs going c.in-Some.c
+      step = λ fs. step_visit (network_of c.args.scheme.now) t w h k c.args.f fs going c.in-Some.c
           c.visit_station.new.trail (g.S.Shelf.meaning c.take_next.new.shelf) (g.S.Shelf.meaning c.visit_station.new.shelf)
           (g.K.Keeper.meaning c.visit_station.new.keeper) took st c.visit_station.ensures.visited;
       room = room_settled (room_alike c.requires.room alike) c.visit_station.ensures.visited.settled refl;
@@ -117,7 +118,7 @@ enter-requires g c =
       nodes = room.nodes;
       items = room.items;
       buckets = room.buckets;
-      kids = λ shut. kids_of (network_of c.args.map.now c.args.rows.now c.args.service.now) t w h h₁ k c.args.f c.in-Some.c
+      kids = λ shut. kids_of (network_of c.args.scheme.now) t w h h₁ k c.args.f c.in-Some.c
           c.requires.charted.fits c.requires.able took shut;
       known = c.requires.able.known c.in-Some.c going.more (due took);
     }
@@ -138,7 +139,7 @@ returns g c =
     let inner : t.stations ≤ c.in-Some.c = omega (arith, c.stations.ensures) in
     let lt : c.in-Some.c < length (vec_items w.nodes) = omega (arith, low, c.requires.room.nodes, w.nodes.ok.0) in
     record {
-      step = λ fs. step_enter (network_of c.args.map.now c.args.rows.now c.args.service.now) t w h k c.args.f fs going c.in-Some.c
+      step = λ fs. step_enter (network_of c.args.scheme.now) t w h k c.args.f fs going c.in-Some.c
           c.enter.new.trail h₁ (g.S.Shelf.meaning c.enter.new.shelf) c.enter.result took inner lt c.enter.ensures;
       room = room_entered room c.enter.ensures;
       alike = alike_then (record { items = took.items; buckets = took.buckets; places = refl }) (alike_entered c.enter.ensures);

@@ -3,8 +3,9 @@ use Rattle.walk.specs.State.{Core}
 use Rattle.walk.specs.Rules.{Links}
 use Rattle.walk.specs.Able.{Safe}
 use Rattle.keeper.specs.Keeps.{Keeps}
+use Rattle.network.specs.Schemes.{network_of}
 use Rattle.map.specs.Means.{tree_of}
-use Rattle.settling.specs.Means.{network_of, core_of, sofar_of}
+use Rattle.settling.specs.Means.{core_of, sofar_of}
 use Rattle.settling.proofs.Keepers.{changed_noted}
 use Rattle.settling.proofs.Rooms.{alike_then}
 use Rattle.settling.proofs.Visits.{known_at, call_of, called_is, room_settled}
@@ -13,7 +14,7 @@ use Rattle.settling.proofs.visit.visit_station.Goals as goal
 pub follow_links-requires : goal.follow_links-requires
 follow_links-requires g c =
     let t = tree_of c.args.map.now in
-    let net = network_of c.args.map.now c.args.rows.now c.args.service.now in
+    let net = network_of c.args.scheme.now in
     let h = g.S.Shelf.meaning c.args.shelf.now in
     let k = g.K.Keeper.meaning c.args.keeper.now in
     let k₁ = g.K.Keeper.meaning c.retire.new.self in
@@ -36,7 +37,7 @@ follow_links-requires g c =
 pub returns : goal.returns
 returns g c =
     let t = tree_of c.args.map.now in
-    let net = network_of c.args.map.now c.args.rows.now c.args.service.now in
+    let net = network_of c.args.scheme.now in
     let h = g.S.Shelf.meaning c.args.shelf.now in
     let k = g.K.Keeper.meaning c.args.keeper.now in
     let k₁ = g.K.Keeper.meaning c.retire.new.self in
@@ -50,7 +51,7 @@ returns g c =
         so_far = sofar_of t k₁;
         call = call_of t c.args.trail.now c.settle.new.self h k k₁ c.args.v c.in-Some.d lt c.settle.ensures known
             (changed_noted t k k₁ c.args.v c.place_of-place.result None c.requires.charted.runs (g.met.K.Keeper.sized c.args.keeper.now) st c.place_of-place.ensures pl c.retire.ensures);
-        links = subst (λ (s : Core). Links net t c.args.v c.in-Some.d s (length c.args.rows.now)
+        links = subst (λ (s : Core). Links net t c.args.v c.in-Some.d s (length net.rows)
             (core_of t c.settle.new.self (g.S.Shelf.meaning c.follow_links.new.shelf) (g.K.Keeper.meaning c.follow_links.new.keeper)))
             (sym (called_is t c.args.trail.now c.settle.new.self h k k₁ c.args.v c.in-Some.d c.settle.ensures))
             c.follow_links.ensures.links;
