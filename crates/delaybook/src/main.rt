@@ -3,11 +3,10 @@
 
 #![tactic(auto)]
 
-use anyhow::anyhow;
+use anyhow::{anyhow, bail};
 use book::book::Book;
 use book::refusal::Refusal;
-use network::row::Row;
-use std::alloc::{AllocError, Global};
+use std::alloc::Global;
 use std::io::Read;
 use text::read::read_sheet;
 use text::sheet::{Head, SheetLink};
@@ -20,16 +19,19 @@ const MOST_LINKS: usize = 2048;
 /// Prints the table of the book's links, one line for each.
 fn print_links(rt: &HostRuntime, book: &Book) -> anyhow::Result<()> {
     println!(rt; "link;from;to;ns;level;state")?;
+    // Kept: a range of numbers, since the book answers for a link by its number and lends no list of its own.
     for number in 0..book.links() {
         let Some(link) = book.link(number) else {
             break;
         };
-        let from = link.from();
-        let to = link.to();
-        let ns = link.ns();
-        let level = link.level();
         let state = if book.in_service(number) { "in" } else { "off" };
-        println!(rt; "{number};{from};{to};{ns};{level};{state}")?;
+        println!(rt;
+            "{number};{};{};{};{};{state}",
+            link.from(),
+            link.to(),
+            link.ns(),
+            link.level()
+        )?;
     }
     Ok(())
 }
@@ -37,77 +39,48 @@ fn print_links(rt: &HostRuntime, book: &Book) -> anyhow::Result<()> {
 /// Prints a fault, and answers an error, so that the program ends with status 1.
 fn print_fault(rt: &HostRuntime, fault: Fault) -> anyhow::Result<()> {
     println!(rt; "cause;layer;line;column")?;
-    let number = fault.cause.number();
-    let layer = fault.cause.layer().spelling();
-    let line = fault.line;
-    let column = fault.column;
-    println!(rt; "{number};{layer};{line};{column}")?;
-    Err(anyhow!("the sheet is refused"))
-}
-
-/// Memory for as many links as a sheet may list.
-fn link_memory(heap: Global) -> anyhow::Result<Vec<SheetLink>> {
-    let blank = SheetLink {
-        row: Row {
-            from: 0,
-            to: 0,
-            ns: 0,
-        },
-        state: State::In,
-    };
-    Ok(vec![in heap; blank; MOST_LINKS]?)
+    println!(rt; "{fault}")?;
+    bail!("the sheet is refused")
 }
 
 /// Takes a link out of service for good.
 fn strike_out(book: &mut Book, link: u32) -> Result<(), Refusal> {
     let permit = book.withdraw(link)?;
+    // Kept: a match, since in a `let .. else` nothing tells of the permit that an error would hold, and its drop asks that.
     match book.strike(permit) {
         Ok(()) => Ok(()),
-        Err(_) => unreachable(),
+        Err(_) => unreachable!(),
     }
-}
-
-/// The rows of the links.
-fn rows_of(heap: Global, links: &[SheetLink]) -> Result<Vec<Row>, AllocError> {
-    let mut rows = Vec::new(heap);
-    for link in links {
-        rows.push(link.row)?;
-    }
-    Ok(rows)
 }
 
 /// Opens a book with the sheet's links, and takes those that are `off` out of service for good.
 fn open_book(heap: Global, head: Head, links: &[SheetLink]) -> Result<Book, Refusal> {
-    let rows = rows_of(heap, links)?;
+    let rows: Vec<_> = links.iter().map(|link| link.row).collect(heap)?;
     let mut book = Book::new(heap)?;
     book.open(heap, head.book, head.stations, rows.as_slice())?;
-    let mut number = 0u32;
-    for link in links {
-        if let State::Off = link.state {
+    for (number, link) in (0u32..).zip(links) {
+        if link.state == State::Off {
             strike_out(&mut book, number)?;
         }
-        number = number.saturating_add(1);
     }
     Ok(book)
 }
 
 /// Opens the book of a sheet and prints its links.
 fn print_book(rt: &HostRuntime, head: Head, links: &[SheetLink]) -> anyhow::Result<()> {
-    match open_book(rt.alloc(), head, links) {
-        Ok(book) => print_links(rt, &book),
-        Err(_) => Err(anyhow!("the book cannot be opened")),
-    }
+    let book = open_book(rt.alloc(), head, links).map_err(|_| anyhow!(
+        "the book cannot be opened"
+    ))?;
+    print_links(rt, &book)
 }
 
 fn main(rt: HostRuntime) -> anyhow::Result<()> {
     let mut text = Vec::new(rt.alloc());
-    let mut input = rt.stdin();
-    input.read_to_end(&mut text)?;
-    let mut links = link_memory(rt.alloc())?;
+    rt.stdin().read_to_end(&mut text)?;
+    let mut links = vec![in rt.alloc(); SheetLink::default(); MOST_LINKS]?;
     let reading = read_sheet(text.as_slice(), links.as_mut_slice());
-    let count = reading.links;
     match reading.outcome {
-        Ok(head) => print_book(&rt, head, &links[0..count]),
+        Ok(head) => print_book(&rt, head, &links[..reading.links]),
         Err(fault) => print_fault(&rt, fault),
     }
 }
