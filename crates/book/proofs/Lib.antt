@@ -1,3 +1,4 @@
 pub mod Fresh
 pub mod Histories
+pub mod Permits
 pub mod Soundness

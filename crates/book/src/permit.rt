@@ -4,6 +4,7 @@ ghost use Rattle.std.specs.Prelude.{◌≡◌, true};
 /// giving it back, striking it or annulling it: code that lets one fall is refused, since dropping it asks that it was spent.
 /// (Annul or strike it.) Code that gives one back twice is refused as well, since a call takes it. (Withdraw the link again.)
 // Kept: a plain token with a flag that its `Drop` requires set is the form that is prescribed.
+#[derive(Debug)]
 pub struct Permit {
     pub(crate) book: u32,
     pub(crate) link: u32,

@@ -32,7 +32,7 @@ pub enum Refusal {
 }
 
 /// Why a call with a permit is refused; the permit comes back.
-#[derive(Drop)]
+#[derive(Debug, Drop)]
 pub enum PermitRefusal {
     /// it is of another book's number
     OtherBook(Permit),

@@ -9,56 +9,51 @@ use book::book::Book;
 use book::refusal::PermitRefusal;
 
 /// Takes a link out of service and puts it back; false where it was not in service.
+#[tactic(auto, using(book::proofs::Permits::given_back))]
 pub fn out_and_back(book: &mut Book, link: u32) -> bool
     ensures was { result ≡ slice_index_or (matter book.old).network.service link false }
     ensures back { result ≡ true → In (matter book.new) link }
     ensures same { ((matter book.new).number ≡ (matter book.old).number) × ((matter book.new).network.rows ≡ (matter book.old).network.rows) }
 {
-    match book.withdraw(link) {
-        Ok(permit) => match book.give_back(permit) {
-            Ok(()) => true,
-            Err(_) => unreachable(),
-        },
-        Err(_) => false,
-    }
+    let Ok(permit) = book.withdraw(link) else {
+        return false;
+    };
+    book.give_back(permit).unwrap();
+    true
 }
 
 /// Takes a link out of service for good; false where it was not in service.
+#[tactic(auto, using(book::proofs::Permits::struck))]
 pub fn out_for_good(book: &mut Book, link: u32) -> bool
     ensures was { result ≡ slice_index_or (matter book.old).network.service link false }
     ensures gone { result ≡ true → Struck (matter book.new) link }
 {
-    match book.withdraw(link) {
-        Ok(permit) => match book.strike(permit) {
-            Ok(()) => true,
-            Err(_) => unreachable(),
-        },
-        Err(_) => false,
-    }
+    let Ok(permit) = book.withdraw(link) else {
+        return false;
+    };
+    book.strike(permit).unwrap();
+    true
 }
 
 /// Takes a link of one book out, offers the permit to another book, and where that refuses it, ends it at home.
 pub fn offer_elsewhere(home: &mut Book, other: &mut Book, link: u32) -> bool
     ensures { result ≡ true → slice_index_or (matter home.old).network.service link false ≡ true }
 {
-    match home.withdraw(link) {
-        Ok(permit) => match other.give_back(permit) {
-            Ok(()) => true,
-            Err(refused) => end_at_home(home, refused),
-        },
-        Err(_) => false,
-    }
+    let Ok(permit) = home.withdraw(link) else {
+        return false;
+    };
+    let Err(refused) = other.give_back(permit) else {
+        return true;
+    };
+    end_at_home(home, refused)
 }
 
 /// Gives the permit of a refusal back at home, or annuls it where that is refused too.
 fn end_at_home(home: &mut Book, refused: PermitRefusal) -> bool
     ensures { result ≡ true }
 {
-    match home.give_back(refused.permit()) {
-        Ok(()) => true,
-        Err(again) => match home.annul(again.permit()) {
-            Ok(()) => true,
-            Err(_) => unreachable(),
-        },
-    }
+    let Err(again) = home.give_back(refused.permit()) else {
+        return true;
+    };
+    home.annul(again.permit()).is_ok()
 }
