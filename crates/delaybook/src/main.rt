@@ -44,13 +44,11 @@ fn print_fault(rt: &HostRuntime, fault: Fault) -> anyhow::Result<()> {
 }
 
 /// Takes a link out of service for good.
+#[tactic(auto, using(book::proofs::Permits::struck))]
 fn strike_out(book: &mut Book, link: u32) -> Result<(), Refusal> {
     let permit = book.withdraw(link)?;
-    // Kept: a match, since in a `let .. else` nothing tells of the permit that an error would hold, and its drop asks that.
-    match book.strike(permit) {
-        Ok(()) => Ok(()),
-        Err(_) => unreachable!(),
-    }
+    book.strike(permit).unwrap();
+    Ok(())
 }
 
 /// Opens a book with the sheet's links, and takes those that are `off` out of service for good.
