@@ -51,29 +51,24 @@ impl Map {
         self.level_of(parent).saturating_sub(self.level_of(node))
     }
 
-    /// The children of a node.
-    pub fn children_of(&self, node: u32) -> &[u32]
-        ensures { result.now ≡ (tree_of self.now).children node }
-    {
-        let Node { from, many, .. } = self.node(node);
-        let rest = self.children.get(from as usize..).unwrap_or(&[]);
-        rest.get(..many as usize).unwrap_or(rest)
-    }
-
     /// How many children a node has.
     pub fn many_of(&self, node: u32) -> u32
         ensures { result ≡ length ((tree_of self.now).children node) }
     {
-        // There are no more than `many`, so that their number fits.
-        let most = self.node(node).many as usize;
-        self.children_of(node).len().min(most) as u32
+        self.node(node).many
     }
 
     /// The child of that place among the children of a node; 0 past the last.
     pub fn child_of(&self, node: u32, i: u32) -> u32
         ensures { result ≡ slice_index ((tree_of self.now).children node) i }
     {
-        self.children_of(node).get(i as usize).copied().unwrap_or(0)
+        let Node { from, many, .. } = self.node(node);
+        if i < many {
+            let at = from as usize + i as usize;
+            self.children.get(at).copied().unwrap_or(0)
+        } else {
+            0
+        }
     }
 
     /// The place of a station.
