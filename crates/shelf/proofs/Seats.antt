@@ -1,18 +1,14 @@
 -- Lists of buckets or nowhere, one for each item.
 use Rattle.std.proofs.Common.{◌≡◌, ℕ, zero, suc, ◌<◌, ◌≤◌, ◌⊎◌, List, [], ◌∷◌, length, get_or, set, replicate, Some, None, Option, sym, refl, ◌∙◌, inl, inr, arith, ext_get_or}
-use lib.ListN.{length-replicate, get_or-replicate}
 use Rattle.std.proofs.lemmas.Bool.{cases_lt}
-use Rattle.std.proofs.lemmas.List.{get_or_past}
-
--- every bucket that an item stands in is below n
-abbrev pub Inside : List (Option ℕ) → ℕ → Type 0
-Inside l n = (i b : ℕ) → get_or l i None ≡ Some b → b < n
+use Rattle.std.proofs.lemmas.List.{get_or_past, get_or-replicate, length-replicate}
+use Rattle.std.proofs.lemmas.Option.{none-some}
 
 -- only an item that exists stands in a bucket
 pub listed : (l : List (Option ℕ)) (i b : ℕ) → get_or l i None ≡ Some b → i < length l
 listed l i b e = elim (cases_lt i (length l)) [
   | inl h ↦ h
-  | inr h ↦ let n = get_or_past l i None h in let z : ◌≡◌ {A = ℕ} 0 1 = cc in omega arith
+  | inr h ↦ absurd (none-some b (sym (get_or_past l i None h) ∙ e))
 ]
 
 -- what is read after a write was written, or stood there before
@@ -23,39 +19,17 @@ read_set (z ∷ l) zero (suc k) x d y h = inr h
 read_set (z ∷ l) (suc i) zero x d y h = inr h
 read_set (z ∷ l) (suc i) (suc k) x d y h = read_set l i k x d y h
 
-pub inside_lifted : (l : List (Option ℕ)) (n i : ℕ) → Inside l n → Inside (set l i None) n
-inside_lifted l n i h k b e = elim (read_set l i k None None (Some b) e) [
-  | inl w ↦ let z : ◌≡◌ {A = ℕ} 0 1 = cc in omega arith
-  | inr w ↦ h k b w
-]
-
-pub inside_placed : (l : List (Option ℕ)) (n i a : ℕ) → a < n → Inside l n → Inside (set l i (Some a)) n
-inside_placed l n i a lt h k b e = elim (read_set l i k (Some a) None (Some b) e) [
-  | inl w ↦ let z : a ≡ b = cc in omega arith
-  | inr w ↦ h k b w
-]
-
--- an item that is lifted is nowhere, and so is each that was
+-- an item that is lifted is nowhere
 pub none_at : (l : List (Option ℕ)) (i : ℕ) → get_or (set l i None) i None ≡ None
 none_at [] i = refl
 none_at (x ∷ l) zero = refl
 none_at (x ∷ l) (suc i) = none_at l i
 
-pub none_stays : (l : List (Option ℕ)) (i k : ℕ) → get_or l k None ≡ None → get_or (set l i None) k None ≡ None
-none_stays [] i k e = e
-none_stays (x ∷ l) zero zero e = refl
-none_stays (x ∷ l) zero (suc k) e = e
-none_stays (x ∷ l) (suc i) zero e = e
-none_stays (x ∷ l) (suc i) (suc k) e = none_stays l i k e
-
 pub none_blank : (n i : ℕ) → get_or (replicate {A = Option ℕ} n None) i None ≡ None
 none_blank n i = elim (cases_lt i n) [
   | inl l ↦ get_or-replicate n i None None l
-  | inr l ↦ (let p : length (replicate {A = Option ℕ} n None) ≤ i = simp length-replicate (omega arith) in get_or_past (replicate n None) i None p)
+  | inr l ↦ (let p : length (replicate {A = Option ℕ} n None) ≤ i = simp length-replicate l in get_or_past (replicate n None) i None p)
 ]
-
-pub inside_blank : (l : List (Option ℕ)) (m n : ℕ) → l ≡ replicate m None → Inside l n
-inside_blank l m n e i b h = let w = none_blank m i in let z : ◌≡◌ {A = ℕ} 0 1 = cc in omega arith
 
 -- where each item is nowhere, the list is blank
 pub all_none : (l : List (Option ℕ)) (n : ℕ) → length l ≡ n → ((i : ℕ) → i < n → get_or l i None ≡ None) → l ≡ replicate n None

@@ -1,6 +1,7 @@
 -- What linking and unlinking an item does to the rings.
 use Rattle.std.proofs.Common.{◌≡◌, ℕ, zero, suc, ◌+◌, ◌<◌, ◌≤◌, cond, eqb, ◌≢◌, Some, None, Option, sym, refl, ap, ◌∙◌, subst, inl, inr, arith, eq-eqb, ne_eqb}
 use Rattle.std.proofs.lemmas.Bool.{cases_lt, cases_eq}
+use Rattle.std.proofs.lemmas.Option.{none-some}
 use Rattle.shelf_chains.specs.Rings.{Steps, Ranked}
 
 -- g is f but for x at i
@@ -16,7 +17,7 @@ pub record Two {A : Type 0} (f : ℕ → A) (i : ℕ) (x : A) (j : ℕ) (y : A) 
 
 -- nothing is Some and None at once
 never : {X : Type 0} (o : Option ℕ) (b : ℕ) → o ≡ Some b → o ≡ None → X
-never o b p q = let z : ◌≡◌ {A = ℕ} 0 1 = cc in let w : ⊥ = omega arith in absurd w
+never o b p q = absurd (none-some b (sym q ∙ p))
 
 module _ {seat seat' : ℕ → Option ℕ} where
   -- the item i leaves its ring, in which it stood between p and q
@@ -73,13 +74,13 @@ module _ {seat seat' : ℕ → Option ℕ} where
       ]
 
 -- no item is next to itself
-pub not_itself : (n : ℕ) (seat : ℕ → Option ℕ) (step : ℕ → ℕ) → Ranked n seat step → (i b : ℕ) → seat i ≡ Some b → i < n → step i ≡ i → ⊥
-not_itself n seat step r i b here lt e = let f = r.falls i b here lt (omega arith) in let w = ap r.rank e in omega arith
+pub not_itself : {n : ℕ} {seat : ℕ → Option ℕ} {step : ℕ → ℕ} → Ranked n seat step → (i b : ℕ) → seat i ≡ Some b → i < n → step i ≡ i → ⊥
+not_itself r i b here lt e = let f = r.falls i b here lt (omega arith) in let w = ap r.rank e in omega arith
 
-pub ranked_unlink : (n : ℕ) (seat seat' : ℕ → Option ℕ) (step step' back : ℕ → ℕ) (i p q b : ℕ) → Steps seat back step
+pub ranked_unlink : {n : ℕ} {seat seat' : ℕ → Option ℕ} {step step' : ℕ → ℕ} (back : ℕ → ℕ) (i p q b : ℕ) → Steps seat back step
     → seat i ≡ Some b → i < n → back i ≡ p → step i ≡ q
     → Set seat i None seat' → Set step p q step' → Ranked n seat step → Ranked n seat' step'
-ranked_unlink n seat seat' step step' back i p q b behind here lt pre post s t r = record {
+ranked_unlink {seat = seat} {seat' = seat'} {step = step} {step' = step'} back i p q b behind here lt pre post s t r = record {
   rank = r.rank;
   falls = λ k c e low next. elim (cases_eq k i) [
     | inl ki ↦ never (seat' i) c (sym (ap seat' ki) ∙ e) s.at
@@ -112,10 +113,10 @@ raised_off : (rank : ℕ → ℕ) (i x k : ℕ) → k ≢ i → raised rank i x 
 unfolding raised
 raised_off rank i x k ki = rw (ne_eqb k i ki)
 
-pub ranked_link : (n : ℕ) (seat seat' : ℕ → Option ℕ) (step step' back : ℕ → ℕ) (i p q b : ℕ) → Steps seat step back
+pub ranked_link : {n : ℕ} {seat seat' : ℕ → Option ℕ} {step step' : ℕ → ℕ} (back : ℕ → ℕ) (i p q b : ℕ) → Steps seat step back
     → seat i ≡ None → seat q ≡ Some b → n ≤ p
     → Set seat i (Some b) seat' → Two step i q p i step' → Ranked n seat step → Ranked n seat' step'
-ranked_link n seat seat' step step' back i p q b ahead none qb above s t r =
+ranked_link {seat = seat} {seat' = seat'} {step = step} {step' = step'} back i p q b ahead none qb above s t r =
     let new : ℕ → ℕ = raised r.rank i (r.rank q + 1) in
     let old = raised_off r.rank i (r.rank q + 1) in
     record {
@@ -136,13 +137,13 @@ ranked_link n seat seat' step step' back i p q b ahead none qb above s t r =
     }
 
 -- a bucket whose node is alone in its ring has no item
-pub bare : (n s b : ℕ) (seat : ℕ → Option ℕ) (step back : ℕ → ℕ) → Steps seat step back → ((k : ℕ) → n ≤ k → seat k ≡ Some b → k ≡ s) → n ≤ s → seat s ≡ Some b → step s ≡ s
+pub bare : {n : ℕ} {seat : ℕ → Option ℕ} {step : ℕ → ℕ} (back : ℕ → ℕ) (s b : ℕ) → Steps seat step back → ((k : ℕ) → n ≤ k → seat k ≡ Some b → k ≡ s) → n ≤ s → seat s ≡ Some b → step s ≡ s
     → (r : Ranked n seat step) → (fuel k : ℕ) → r.rank k < fuel → k < n → seat k ≡ Some b → ⊥
-bare n s b seat step back ahead only above here alone r zero k f lt e = omega arith
-bare n s b seat step back ahead only above here alone r (suc fuel) k f lt e = elim (cases_lt (step k) n) [
+bare back s b ahead only above here alone r zero k f lt e = omega arith
+bare {n = n} {step = step} back s b ahead only above here alone r (suc fuel) k f lt e = elim (cases_lt (step k) n) [
   | inl low ↦ (
       let down = r.falls k b e lt low in
-      bare n s b seat step back ahead only above here alone r fuel (step k) (omega arith) low (ahead k b e).0)
+      bare back s b ahead only above here alone r fuel (step k) (omega arith) low (ahead k b e).0)
   | inr high ↦ (
       let end : step k ≡ s = only (step k) high (ahead k b e).0 in
       let back_k : k ≡ s = sym (ahead k b e).1 ∙ ap back (end ∙ sym alone) ∙ (ahead s b here).1 in
