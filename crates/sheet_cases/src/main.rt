@@ -2,38 +2,19 @@
 
 #![tactic(auto)]
 
-use network::row::Row;
 use text::read::read_sheet;
-use text::sheet::SheetLink;
-use word::state::State;
+use text::sheet::{Head, SheetLink};
 
 /// Reads one sheet into memory for so many links, and prints what came of it.
 fn show(rt: &HostRuntime, name: &str, sheet: &[u8], room: usize) -> anyhow::Result<()> {
-    let row = Row {
-        from: 0,
-        to: 0,
-        ns: 0,
-    };
-    let blank = SheetLink {
-        row,
-        state: State::In,
-    };
-    let mut links = vec![in rt.alloc(); blank; room]?;
-    let reading = read_sheet(sheet, links.as_mut_slice());
+    let mut links = vec![in rt.alloc(); SheetLink::default(); room]?;
+    let reading = read_sheet(sheet, &mut links);
     let count = reading.links;
     match reading.outcome {
-        Ok(head) => {
-            let book = head.book;
-            let stations = head.stations;
-            println!(rt; "{name}: {count} links, book {book}, {stations} stations")?;
-        }
-        Err(fault) => {
-            let number = fault.cause.number();
-            let layer = fault.cause.layer().spelling();
-            let line = fault.line;
-            let column = fault.column;
-            println!(rt; "{name}: {count} links, {number};{layer};{line};{column}")?;
-        }
+        Ok(Head { book, stations }) => println!(rt;
+            "{name}: {count} links, book {book}, {stations} stations"
+        )?,
+        Err(fault) => println!(rt; "{name}: {count} links, {fault}")?,
     }
     Ok(())
 }
@@ -43,7 +24,7 @@ fn links(rt: &HostRuntime, name: &str, lines: &[u8], room: usize) -> anyhow::Res
     let mut sheet = Vec::new(rt.alloc());
     sheet.extend_from_slice(b"book;stations\n7;5\n\nfrom;to;ns;state\n")?;
     sheet.extend_from_slice(lines)?;
-    show(rt, name, sheet.as_slice(), room)
+    show(rt, name, &sheet, room)
 }
 
 fn words(rt: &HostRuntime) -> anyhow::Result<()> {
@@ -189,10 +170,8 @@ fn lengths(rt: &HostRuntime) -> anyhow::Result<()> {
     for longest in [65536usize, 65537] {
         let mut sheet = Vec::new(rt.alloc());
         sheet.extend_from_slice(b"book;stations\n")?;
-        for _ in 14..longest {
-            sheet.push(b'9')?;
-        }
-        show(rt, "a long text", sheet.as_slice(), 0)?;
+        sheet.resize(longest, b'9')?;
+        show(rt, "a long text", &sheet, 0)?;
     }
     Ok(())
 }
@@ -205,7 +184,7 @@ fn sizes(rt: &HostRuntime) -> anyhow::Result<()> {
         for _ in 0..links {
             sheet.extend_from_slice(b"0;1;3;in\n")?;
         }
-        show(rt, "many links", sheet.as_slice(), 4096)?;
+        show(rt, "many links", &sheet, 4096)?;
     }
     Ok(())
 }
