@@ -1,8 +1,8 @@
 -- The places of a table's names, as its line of names is read word by word.
-use Rattle.std.proofs.Common.{◌≡◌, ℕ, zero, suc, ◌+◌, ◌<◌, ◌≤◌, Bool, true, false, cond, eqb, ltb, ◌≢◌, List, [], ◌∷◌, length, get_or, set, sym, refl, ap, ◌∙◌, subst, arith, length-set, get_or-set_other, get_or-set_same, ltb-true, le-ltb, lt-ltb}
+use Rattle.std.proofs.Common.{◌≡◌, ℕ, zero, suc, ◌+◌, ◌<◌, ◌≤◌, true, false, cond, eqb, ltb, ◌≢◌, List, [], length, get_or, set, sym, refl, ap, ◌∙◌, subst, arith, length-set, get_or-set_other, get_or-set_same, le-ltb, lt-ltb}
 use native.Mathlib.Decide.{dec_lt, ℕ_discrete}
 use Rattle.text.specs.Tables.{names, width, Named}
-use Rattle.text.specs.Columns.{Ordered, NewName, NameFault, NoNewName}
+use Rattle.text.specs.Columns.{NewName, NameFault, NoNewName}
 use Rattle.word.specs.declared.fault.Cause.{Cause}
 use Rattle.word.specs.declared.fault.Cause.TheVariants.{InWord, InLine, InTable, TextTooLong, InBook}
 use Rattle.word.specs.declared.fault.WordFault.TheVariants.{Empty, NotANumber, TooLarge, BadState}
@@ -32,24 +32,6 @@ one_name t i k l m e = sym (index_is t i l) ∙ (ap (index t) e ∙ index_is t k
 abbrev pub known : List ℕ → ℕ → ℕ
 known places zero = 0
 known places (suc n) = cond (ltb (get_or places n 0) 4) 1 0 + known places n
-
-known_most : (places : List ℕ) (n : ℕ) → known places n ≤ n
-known_most places zero = omega arith
-known_most places (suc n) = go (ltb (get_or places n 0) 4) (known_most places n)
-  where
-    go : (b : Bool) → known places n ≤ n → cond b 1 0 + known places n ≤ suc n
-    go true h = omega arith
-    go false h = omega arith
-
--- where all are known, each is
-known_all : (places : List ℕ) (n i : ℕ) → known places n ≡ n → i < n → get_or places i 0 < 4
-known_all places zero i e h = let z : ⊥ = omega arith in absurd z
-known_all places (suc n) i e h = go (ltb (get_or places n 0) 4) refl (known_most places n) (λ d. known_all places n i d) (ℕ_discrete i n)
-  where
-    go : (b : Bool) → ltb (get_or places n 0) 4 ≡ b → known places n ≤ n → (known places n ≡ n → i < n → get_or places i 0 < 4) → Dec (i ≡ n) → get_or places i 0 < 4
-    go true t m r (yes q) = subst (λ (k : ℕ). get_or places k 0 < 4) (sym q) (ltb-true (get_or places n 0) 4 t)
-    go true t m r (no q) = r (omega (arith, rw t at e)) (omega arith)
-    go false t m r d = let z : ⊥ = omega (arith, rw t at e) in absurd z
 
 -- a place past the first n does not count among them
 known_past : (places : List ℕ) (n i j : ℕ) → n ≤ i → known (set places i j) n ≡ known places n
@@ -85,27 +67,6 @@ pub record Seen (t : Table) (ws : List (List ℕ)) (j : ℕ) (places : List ℕ)
 pub width_most : (t : Table) → width t ≤ 4
 width_most Book = omega arith
 width_most Links = omega arith
-
-pub seen_none : (t : Table) (ws : List (List ℕ)) → Seen t ws 0 (4 ∷ 4 ∷ 4 ∷ 4 ∷ [])
-seen_none t ws =
-    record {
-      four = refl;
-      came = λ i h l. absurd (far i (omega (arith, width_most t)) l);
-      absent = λ i h n k l. let z : ⊥ = omega arith in absurd z;
-      good = λ k l. let z : ⊥ = omega arith in absurd z;
-      many = none t;
-    }
-  where
-    far : (i : ℕ) → i < 4 → get_or (4 ∷ 4 ∷ 4 ∷ 4 ∷ []) i 0 < 4 → ⊥
-    far zero h l = omega arith
-    far (suc zero) h l = omega arith
-    far (suc (suc zero)) h l = omega arith
-    far (suc (suc (suc zero))) h l = omega arith
-    far (suc (suc (suc (suc i)))) h l = omega arith
-
-    none : (t : Table) → known (4 ∷ 4 ∷ 4 ∷ 4 ∷ []) (width t) ≡ 0
-    none Book = refl
-    none Links = refl
 
 module _ {t : Table} {ws : List (List ℕ)} {j i : ℕ} {places : List ℕ} (seen : Seen t ws j places) (column : i < width t) (named : get_or (names t) i [] ≡ get_or ws j []) where
   -- a name that has its place came before
@@ -148,10 +109,6 @@ module _ {t : Table} {ws : List (List ℕ)} {j i : ℕ} {places : List ℕ} (see
       fine : (k : ℕ) → k < j + 1 → Dec (k ≡ j) → (get_or places i 0 < 4 → ⊥) → NewName t ws k
       fine k d (yes q) n = subst (λ (x : ℕ). NewName t ws x) (sym q) (seen_new n)
       fine k d (no q) n = seen.good k (omega arith)
-
-pub seen_all : {t : Table} {ws : List (List ℕ)} {places : List ℕ} → length ws ≡ width t → Seen t ws (width t) places → Ordered t ws places
-seen_all {t} {ws} {places} count seen =
-    record { count = count; once = λ i j l h. (seen.good j h).new i l; placed = λ i h. seen.came i h (known_all places (width t) i seen.many h) }
 
 -- a word that names no new column is at fault
 pub name_fault : {t : Table} {ws : List (List ℕ)} {j : ℕ} {places : List ℕ} → Seen t ws j places → (cause : Cause) → NoNewName t places (get_or ws j []) cause → NameFault t ws j cause

@@ -141,9 +141,6 @@ module _ {line : List ℕ} {j start e : ℕ} (at : WordAt line j start) (ends : 
         column = omega (arith, at.column, column_next (words line) j (omega arith), ap length word_is, length-between line start e ends.high, ends.low);
       }
 
-pub word_first : (line : List ℕ) → WordAt line 0 0
-word_first line = record { within = omega arith; left = refl; column = refl }
-
 onto_length : (b : ℕ) (ps : List (List ℕ)) → 0 < length ps → length (onto b ps) ≡ length ps
 onto_length b [] h = let z : ⊥ = omega arith in absurd z
 onto_length b (p ∷ ps) h = refl
@@ -168,9 +165,6 @@ words_count line =
         go : (t : Bool) → 0 < length (words bs) → length (cond t ([] ∷ words bs) (onto b (words bs))) - 1 ≡ cond t (1 + (length (words bs) - 1)) (length (words bs) - 1)
         go true h = omega arith
         go false h = omega (arith, onto_length b (words bs) h)
-
-pub line_first : (text : List ℕ) → LineAt text 0 0
-line_first text = record { within = omega arith; few = omega arith; listed = omega arith; left = refl }
 
 -- the text ends where no byte is left
 pub line_none : {text : List ℕ} {i start : ℕ} → LineAt text i start → length text ≤ start → length (lines text) ≤ i

@@ -21,14 +21,12 @@ fn word_at_fault(refusal: RowRefusal, stations: u32, places: Places) -> usize
     ensures { WordAtFault stations places refusal result }
 {
     match refusal {
-        RowRefusal::EndOutside(row) => {
-            if row.from >= stations && (row.to < stations || places[0] <= places[1]) {
-                places[0]
-            } else {
-                places[1]
-            }
+        RowRefusal::EndOutside(row)
+            if row.from >= stations && (row.to < stations || places[0] <= places[1]) =>
+        {
+            places[0]
         }
-        RowRefusal::EqualEnds(_) => places[1],
+        RowRefusal::EndOutside(_) | RowRefusal::EqualEnds(_) => places[1],
         RowRefusal::NoDelay(_) => places[2],
     }
 }
