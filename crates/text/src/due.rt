@@ -20,15 +20,19 @@ impl<'a> Cursor<'a> {
         ensures { MatchOption result (length (lines (text_of self.old)) ≤ self.old.line) (λ o. MatchResult o (λ content. IsNext self.old content × Moved self.old self.new) (λ f. NoneDue self.old f)) }
     {
         match self.next_line(role)? {
-            Line::Names { bytes, line, .. } | Line::Values { bytes, line, .. } => Some(Ok(
-                Content {
-                    bytes,
-                    number: line,
-                },
-            )),
-            Line::Divider { line, column, .. } => Some(Err(Cause::InTable(TableFault::LineDue).at(
-                line, column,
-            ))),
+            Line::Names {
+                bytes,
+                line: number,
+                ..
+            }
+            | Line::Values {
+                bytes,
+                line: number,
+                ..
+            } => Some(Ok(Content { bytes, number })),
+            Line::Divider { line, column, .. } => {
+                Some(Err(Cause::InTable(TableFault::LineDue).at(line, column)))
+            }
         }
     }
 

@@ -2,6 +2,7 @@ ghost use Rattle.text.specs.Lines.{LineIs};
 
 /// A line of a sheet. Each case borrows the line's bytes and has the line's number and the column of its first byte, both
 /// counted from 1.
+// Kept: three cases, each with its bytes, its line and its column, are the form that is prescribed for a line.
 #[derive(Clone, Copy, Debug, PartialEq, Eq)]
 pub enum Line<'a> {
     /// the names of a table's columns

@@ -12,6 +12,7 @@ use word::fault::{Cause, Fault, LineFault, WordFault};
 pub type Places = [usize; 4];
 
 /// In the place of a name that has not come yet.
+// Kept: with an `Option` for each place, the columns that the book's table has not would still get a made-up place at the end.
 const NOWHERE: usize = 4;
 
 /// The column of the table that a word of its line of names names, for the first time.
@@ -52,6 +53,7 @@ impl Content<'_> {
     {
         self.check_count(table.width())?;
         let mut places = [NOWHERE; 4];
+        // Kept: a word is looked up by its number, as for a fault's column; an iterator would be a second way to find words.
         for j in 0..table.width() {
             let word = self.word(j);
             match new_name(word.bytes, table, places) {

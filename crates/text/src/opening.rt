@@ -22,8 +22,7 @@ fn word_at_fault(refusal: RowRefusal, stations: u32, places: Places) -> usize
 {
     match refusal {
         RowRefusal::EndOutside(row)
-            if row.from >= stations && (row.to < stations || places[0] <= places[1]) =>
-        {
+            if row.from >= stations && (row.to < stations || places[0] <= places[1]) => {
             places[0]
         }
         RowRefusal::EndOutside(_) | RowRefusal::EqualEnds(_) => places[1],

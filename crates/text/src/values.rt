@@ -52,6 +52,7 @@ impl Content<'_> {
         self.check_count(table.width())?;
         let state_at = table.state_at(places);
         let mut values = Values::default();
+        // Kept: a word is looked up by its number, as for a fault's column; an iterator would be a second way to find words.
         for j in 0..table.width() {
             let word = self.word(j);
             if let Err(fault) = read_word(word.bytes, j, state_at, &mut values) {

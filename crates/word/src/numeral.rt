@@ -7,6 +7,7 @@ use super::fault::WordFault;
 
 /// The number that a word spells: a single `0`, or a digit `1` to `9` with further digits, at most 4,294,967,295. All bytes are
 /// judged before the size.
+// Kept: the patterns for no byte, a single `0`, and a first byte with the rest are the form that is prescribed for a number.
 pub fn number(word: &[u8]) -> Result<u32, WordFault>
     ensures { MatchResult result (λ n. ReadsNumber word.now n) (λ e. NumberFault word.now e) }
 {
