@@ -4,9 +4,19 @@
 
 use book::book::Book;
 use book::permit::Permit;
-use book::refusal::PermitRefusal;
+use book::refusal::{PermitRefusal, Refusal};
 use network::row::Row;
 use std::alloc::Global;
+
+/// The number of a refusal in the table of causes.
+#[derive(Clone, Copy)]
+struct Cause(u8);
+
+impl From<Refusal> for Cause {
+    fn from(refusal: Refusal) -> Cause {
+        Cause(refusal.number())
+    }
+}
 
 /// A row.
 fn row(from: u32, to: u32, ns: u32) -> Row {
@@ -15,143 +25,116 @@ fn row(from: u32, to: u32, ns: u32) -> Row {
 
 /// Gives a permit back at home, or annuls it where that is refused.
 fn end_permit(home: &mut Book, permit: Permit) {
-    match home.give_back(permit) {
-        Ok(()) => {}
-        Err(refused) => match home.annul(refused.permit()) {
-            Ok(()) => {}
-            Err(_) => unreachable(),
-        },
+    if let Err(refused) = home.give_back(permit) {
+        home.annul(refused.permit()).unwrap();
     }
 }
 
-/// The number of a refusal, whose permit ends at home; 0 where the call was granted.
-fn ended(home: &mut Book, outcome: Result<(), PermitRefusal>) -> u8 {
-    match outcome {
-        Ok(()) => 0,
-        Err(refused) => {
-            let number = refused.number();
-            end_permit(home, refused.permit());
-            number
-        }
-    }
+/// Withdraws a link and makes a call with its permit, which ends at home where it comes back.
+fn with_permit<F: FnOnce(&mut Book, Permit) -> Result<(), PermitRefusal>>(
+    home: &mut Book,
+    link: u32,
+    call: F,
+) -> Result<(), Cause>
+    requires { F.IsAlwaysCallable call }
+{
+    let permit = home.withdraw(link)?;
+    let Err(refused) = call(home, permit) else {
+        return Ok(());
+    };
+    let cause = Cause(refused.number());
+    end_permit(home, refused.permit());
+    Err(cause)
 }
 
-/// The number of the refusal to open, or 0.
-fn opened(place: &mut Book, heap: Global, number: u32, stations: u32, rows: &[Row]) -> u8 {
-    match place.open(heap, number, stations, rows) {
-        Ok(()) => 0,
-        Err(refusal) => refusal.number(),
-    }
+/// Withdraws a link and gives it back.
+fn withdraw(book: &mut Book, link: u32) -> Result<(), Cause> {
+    with_permit(book, link, |book, permit| book.give_back(permit))
 }
 
-/// The number of the refusal to withdraw, or 0; the permit ends at home.
-fn withdrawn(book: &mut Book, link: u32) -> u8 {
-    match book.withdraw(link) {
-        Ok(permit) => {
-            end_permit(book, permit);
-            0
-        }
-        Err(refusal) => refusal.number(),
-    }
+/// Strikes a link.
+fn strike(book: &mut Book, link: u32) -> Result<(), Cause> {
+    with_permit(book, link, |book, permit| book.strike(permit))
 }
 
 /// Withdraws a link twice.
-fn withdraw_twice(book: &mut Book, link: u32) -> u8 {
-    match book.withdraw(link) {
-        Ok(permit) => {
-            let again = withdrawn(book, link);
-            end_permit(book, permit);
-            again
-        }
-        Err(_) => 0,
-    }
+fn withdraw_twice(book: &mut Book, link: u32) -> Result<(), Cause> {
+    let permit = book.withdraw(link)?;
+    let again = withdraw(book, link);
+    end_permit(book, permit);
+    again
 }
 
 /// Offers the permit of one book to another.
-fn to_another_book(home: &mut Book, other: &mut Book, link: u32) -> u8 {
-    match home.withdraw(link) {
-        Ok(permit) => {
-            let outcome = other.give_back(permit);
-            ended(home, outcome)
-        }
-        Err(_) => 0,
-    }
+fn to_another_book(home: &mut Book, other: &mut Book, link: u32) -> Result<(), Cause> {
+    with_permit(home, link, |_, permit| other.give_back(permit))
 }
 
 /// Annuls a permit that could be given back.
-fn annul_too_soon(book: &mut Book, link: u32) -> u8 {
-    match book.withdraw(link) {
-        Ok(permit) => {
-            let outcome = book.annul(permit);
-            ended(book, outcome)
-        }
-        Err(_) => 0,
-    }
+fn annul_too_soon(book: &mut Book, link: u32) -> Result<(), Cause> {
+    with_permit(book, link, |book, permit| book.annul(permit))
 }
 
 /// Gives back a permit of an earlier opening, whose link is in service now.
-fn of_an_earlier_opening(book: &mut Book, heap: Global, number: u32, rows: &[Row]) -> u8 {
-    match book.withdraw(0) {
-        Ok(permit) => {
-            let _ = opened(book, heap, number, 5, rows);
-            let outcome = book.give_back(permit);
-            ended(book, outcome)
-        }
-        Err(_) => 0,
-    }
+fn of_an_earlier_opening(
+    book: &mut Book,
+    heap: Global,
+    number: u32,
+    rows: &[Row],
+) -> Result<(), Cause> {
+    with_permit(book, 0, |book, permit| {
+        let _ = book.open(heap, number, 5, rows);
+        book.give_back(permit)
+    })
 }
 
 /// Gives back a permit of an earlier opening after the link was struck in this one.
-fn after_a_strike(book: &mut Book, heap: Global, rows: &[Row]) -> u8 {
-    match book.withdraw(0) {
-        Ok(old) => {
-            let _ = opened(book, heap, 7, 5, rows);
-            let _ = struck(book, 0);
-            let outcome = book.give_back(old);
-            ended(book, outcome)
-        }
-        Err(_) => 0,
-    }
+fn after_a_strike(book: &mut Book, heap: Global, rows: &[Row]) -> Result<(), Cause> {
+    with_permit(book, 0, |book, permit| {
+        let _ = book.open(heap, 7, 5, rows);
+        let _ = strike(book, 0);
+        book.give_back(permit)
+    })
 }
 
-/// Strikes a link; the number of the refusal, or 0.
-fn struck(book: &mut Book, link: u32) -> u8 {
-    match book.withdraw(link) {
-        Ok(permit) => {
-            let outcome = book.strike(permit);
-            ended(book, outcome)
-        }
-        Err(refusal) => refusal.number(),
-    }
+/// Prints what came of a call: the number of its refusal, 0 where it was granted.
+fn tell(rt: &HostRuntime, what: &str, outcome: Result<(), Cause>) -> anyhow::Result<()> {
+    let number = outcome.map_or_else(|cause| cause.0, |()| 0);
+    println!(rt; "{what}: {number}")?;
+    Ok(())
+}
+
+/// Prints what came of an opening.
+fn tell_opening(
+    rt: &HostRuntime,
+    what: &str,
+    place: &mut Book,
+    stations: u32,
+    rows: &[Row],
+) -> anyhow::Result<()> {
+    let outcome = place.open(rt.alloc(), 1, stations, rows);
+    tell(rt, what, outcome.map_err(Cause::from))
 }
 
 /// Openings at and past the limits.
 fn openings(rt: &HostRuntime, place: &mut Book) -> anyhow::Result<()> {
-    let heap = rt.alloc();
     let link = row(0, 1, 3);
-    let most = vec![in heap; link; 2048]?;
-    let many = vec![in heap; link; 2049]?;
-    let none = opened(place, heap, 1, 0, most.as_slice());
-    let above = opened(place, heap, 1, 513, most.as_slice());
-    let rows = opened(place, heap, 1, 512, many.as_slice());
-    let fits = opened(place, heap, 1, 512, most.as_slice());
-    println!(rt; "0 stations: {none}")?;
-    println!(rt; "513 stations: {above}")?;
-    println!(rt; "2049 rows: {rows}")?;
-    println!(rt; "512 stations and 2048 rows: {fits}")?;
-    Ok(())
+    let many = vec![in rt.alloc(); link; 2049]?;
+    let most = &many[..2048];
+    tell_opening(rt, "0 stations", place, 0, most)?;
+    tell_opening(rt, "513 stations", place, 513, most)?;
+    tell_opening(rt, "2049 rows", place, 512, many.as_slice())?;
+    tell_opening(rt, "512 stations and 2048 rows", place, 512, most)
 }
 
 /// Rows that describe no link.
 fn bad_rows(rt: &HostRuntime, place: &mut Book) -> anyhow::Result<()> {
-    let heap = rt.alloc();
-    let outside = opened(place, heap, 1, 5, &[row(0, 5, 0)]);
-    let equal = opened(place, heap, 1, 5, &[row(2, 2, 0)]);
-    let timeless = opened(place, heap, 1, 5, &[row(0, 1, 3), row(0, 1, 0)]);
-    println!(rt; "an end that is no station: {outside}")?;
-    println!(rt; "equal ends: {equal}")?;
-    println!(rt; "no delay: {timeless}")?;
-    Ok(())
+    let outside = [row(0, 5, 0)];
+    let equal = [row(2, 2, 0)];
+    let timeless = [row(0, 1, 3), row(0, 1, 0)];
+    tell_opening(rt, "an end that is no station", place, 5, &outside)?;
+    tell_opening(rt, "equal ends", place, 5, &equal)?;
+    tell_opening(rt, "no delay", place, 5, &timeless)
 }
 
 /// Links out of service and their permits.
@@ -162,26 +145,29 @@ fn permits(
     rows: &[Row],
 ) -> anyhow::Result<()> {
     let heap = rt.alloc();
-    let _ = opened(book, heap, 7, 5, rows);
-    let _ = opened(other, heap, 8, 5, rows);
-    let lacking = withdrawn(book, 2);
-    let twice = withdraw_twice(book, 0);
+    book.open(heap, 7, 5, rows)?;
+    other.open(heap, 8, 5, rows)?;
+    tell(rt, "withdraw a link that is not there", withdraw(book, 2))?;
+    tell(rt, "withdraw twice", withdraw_twice(book, 0))?;
     let elsewhere = to_another_book(book, other, 0);
+    tell(rt, "a permit of another book for the same link", elsewhere)?;
     let soon = annul_too_soon(book, 0);
-    println!(rt; "withdraw a link that is not there: {lacking}")?;
-    println!(rt; "withdraw twice: {twice}")?;
-    println!(rt; "a permit of another book for the same link: {elsewhere}")?;
-    println!(rt; "annul a permit that could be given back: {soon}")?;
+    tell(rt, "annul a permit that could be given back", soon)?;
     let earlier = of_an_earlier_opening(book, heap, 7, rows);
+    tell(rt, "a permit of an earlier opening", earlier)?;
     let renamed = of_an_earlier_opening(book, heap, 9, rows);
-    let _ = opened(book, heap, 7, 5, rows);
-    let gone = after_a_strike(book, heap, rows);
-    let again = withdrawn(book, 0);
-    println!(rt; "a permit of an earlier opening: {earlier}")?;
-    println!(rt; "a permit of an earlier opening under another number: {renamed}")?;
-    println!(rt; "give back after strike: {gone}")?;
-    println!(rt; "withdraw a struck link: {again}")?;
-    Ok(())
+    tell(
+        rt,
+        "a permit of an earlier opening under another number",
+        renamed,
+    )?;
+    book.open(heap, 7, 5, rows)?;
+    tell(
+        rt,
+        "give back after strike",
+        after_a_strike(book, heap, rows),
+    )?;
+    tell(rt, "withdraw a struck link", withdraw(book, 0))
 }
 
 fn main(rt: HostRuntime) -> anyhow::Result<()> {
