@@ -28,8 +28,9 @@ fn same_call<A: Shelf, B: Shelf>(a: &mut A, b: &mut B, clears: u32, random: &mut
         a.clear();
         b.clear();
     }
+    // Kept: a roll is matched where it picks the call, since an enum of calls would be made by this same match, and then matched once more.
     let same = match random.below(6) {
-        0 | 1 | 2 => a.put(item, bucket) == b.put(item, bucket),
+        0..=2 => a.put(item, bucket) == b.put(item, bucket),
         3 => same_take(a, b, bucket),
         4 => same_take(b, a, bucket),
         _ => {
@@ -42,45 +43,41 @@ fn same_call<A: Shelf, B: Shelf>(a: &mut A, b: &mut B, clears: u32, random: &mut
 }
 
 /// How many of so many random calls two shelves answer alike.
-fn shelves_alike<A: Shelf, B: Shelf>(a: &mut A, b: &mut B, many: u32, clears: u32) -> u32 {
+fn shelves_alike<A: Shelf, B: Shelf>(a: &mut A, b: &mut B, many: u32, clears: u32) -> usize {
     let mut random = Random::new(2026);
-    let mut alike = 0u32;
-    for _ in 0..many {
-        if same_call(a, b, clears, &mut random) {
-            alike = alike.saturating_add(1);
+    (0..many)
+        .filter(|_| same_call(a, b, clears, &mut random))
+        .count()
+}
+
+/// One random call on both keepers, and whether they agree on it and on the least of all.
+fn same_least<A: Keeper, B: Keeper>(a: &mut A, b: &mut B, random: &mut Random) -> bool {
+    let range = a.places().saturating_add(3);
+    let place = random.below(range);
+    let other = random.below(range);
+    let d = u64::from(random.below(50));
+    // Kept: a roll is matched where it picks the call, since an enum of calls would be made by this same match, and then matched once more.
+    let same = match random.below(400) {
+        0 => {
+            a.clear();
+            b.clear();
+            true
         }
-    }
-    alike
+        1..=99 => {
+            a.retire(place);
+            b.retire(place);
+            true
+        }
+        100..=249 => a.lower(place, d) == b.lower(place, d),
+        _ => a.least(place, other) == b.least(place, other),
+    };
+    same && a.least(0, u32::MAX) == b.least(0, u32::MAX)
 }
 
 /// How many of so many random calls two keepers answer alike.
-fn keepers_alike<A: Keeper, B: Keeper>(a: &mut A, b: &mut B, many: u32) -> u32 {
+fn keepers_alike<A: Keeper, B: Keeper>(a: &mut A, b: &mut B, many: u32) -> usize {
     let mut random = Random::new(1118);
-    let range = a.places().saturating_add(3);
-    let mut alike = 0u32;
-    for _ in 0..many {
-        let place = random.below(range);
-        let other = random.below(range);
-        let d = u64::from(random.below(50));
-        let same = match random.below(400) {
-            0 => {
-                a.clear();
-                b.clear();
-                true
-            }
-            1..=99 => {
-                a.retire(place);
-                b.retire(place);
-                true
-            }
-            100..=249 => a.lower(place, d) == b.lower(place, d),
-            _ => a.least(place, other) == b.least(place, other),
-        };
-        if same && a.least(0, u32::MAX) == b.least(0, u32::MAX) {
-            alike = alike.saturating_add(1);
-        }
-    }
-    alike
+    (0..many).filter(|_| same_least(a, b, &mut random)).count()
 }
 
 fn print_shelves(
@@ -108,13 +105,16 @@ fn print_keepers(rt: &HostRuntime, places: u32, many: u32) -> io::Result<()> {
 
 /// Compares shelves and keepers of several sizes, and lets the count of puts reach its end once.
 pub(crate) fn print_all(rt: &HostRuntime) -> io::Result<()> {
-    print_shelves(rt, 1, 1, 1000, 50)?;
-    print_shelves(rt, 10, 3, 10000, 500)?;
-    print_shelves(rt, 100, 40, 10000, 500)?;
-    print_shelves(rt, 50, 20, 400000, 0)?;
-    print_keepers(rt, 0, 100)?;
-    print_keepers(rt, 1, 1000)?;
-    print_keepers(rt, 6, 5000)?;
-    print_keepers(rt, 64, 5000)?;
-    print_keepers(rt, 100, 5000)
+    for (items, buckets, many, clears) in [
+        (1, 1, 1000, 50),
+        (10, 3, 10000, 500),
+        (100, 40, 10000, 500),
+        (50, 20, 400000, 0),
+    ] {
+        print_shelves(rt, items, buckets, many, clears)?;
+    }
+    for (places, many) in [(0, 100), (1, 1000), (6, 5000), (64, 5000), (100, 5000)] {
+        print_keepers(rt, places, many)?;
+    }
+    Ok(())
 }

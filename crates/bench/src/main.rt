@@ -11,9 +11,7 @@ mod times;
 use std::{env, io};
 
 fn main(rt: HostRuntime) -> io::Result<()> {
-    let mut words = env::args(&rt)?;
-    let _ = words.next();
-    if words.next().is_some() {
+    if env::args(&rt)?.nth(1).is_some() {
         times::print_all(&rt)
     } else {
         compare::print_all(&rt)

@@ -53,11 +53,11 @@ fn print_keepers(rt: &HostRuntime, places: u32) -> io::Result<()> {
 
 /// Times every shelf and every keeper at several sizes.
 pub(crate) fn print_all(rt: &HostRuntime) -> io::Result<()> {
-    print_shelves(rt, 64)?;
-    print_shelves(rt, 1024)?;
-    print_shelves(rt, 16384)?;
-    print_keepers(rt, 16)?;
-    print_keepers(rt, 64)?;
-    print_keepers(rt, 256)?;
-    print_keepers(rt, 1024)
+    for items in [64, 1024, 16384] {
+        print_shelves(rt, items)?;
+    }
+    for places in [16, 64, 256, 1024] {
+        print_keepers(rt, places)?;
+    }
+    Ok(())
 }
