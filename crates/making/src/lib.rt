@@ -1,12 +1,8 @@
-//! The making of the component tree, level by level, over memory that is lent.
+//! The making of the component tree, level by level, over memory that is reserved before.
 
 #![tactic(auto)]
 
-pub mod begin;
-pub mod forms;
-pub mod joins;
-pub mod keep;
+pub mod groups;
 pub mod levels;
 pub mod measures;
-pub mod numbers;
-pub mod relabel;
+pub mod nodes;

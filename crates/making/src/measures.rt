@@ -7,5 +7,5 @@ pub(crate) fn buckets_for(spread: u64, level: u32) -> u64
     ensures { result ≡ rounded_up spread (2 ^ (level - 1)) + 1 }
 {
     let width: u64 = 1 << (level - 1);
-    (spread + (width - 1)) / width + 1
+    spread.div_ceil(width) + 1
 }

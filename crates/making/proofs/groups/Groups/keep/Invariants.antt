@@ -1,0 +1,7 @@
+use Rattle.std.proofs.Common.{◌≡◌, ◌++◌, map, take, drop}
+use Rattle.making.specs.Members.{kept}
+use Rattle.making.proofs.groups.Groups.keep.Given as goal
+
+abbrev pub invariant-loop-member : goal.invariant-loop-member
+invariant-loop-member l =
+    l.member-items ≡ map kept (take l.member-index l.initial.member-items) ++ drop l.member-index l.initial.member-items
