@@ -1,4 +1,4 @@
-ghost use Rattle.std.specs.Prelude.{◌≡◌, ℕ, ◌<◌, MatchResult};
+ghost use Rattle.std.specs.Prelude.{◌≡◌, ℕ, ◌<◌, MatchResult, unwrap_or};
 ghost use Rattle.text.specs.Split.{words};
 ghost use Rattle.text.specs.Stored.{Stored};
 ghost use Rattle.text.specs.Tables.{width, state_at};
@@ -19,23 +19,28 @@ pub struct Values {
 }
 
 impl Table {
-    /// Where the state stands among the words of a line of values; past all of them where the table has none.
-    fn state_at(self, places: Places) -> usize
-        ensures { result ≡ state_at self places }
+    /// Where the state stands among the words of a line of values, if the table has one.
+    fn state_at(self, places: Places) -> Option<usize>
+        ensures { unwrap_or result 4 ≡ state_at self places }
     {
         match self {
-            Table::Book => 4,
-            Table::Links => places[3],
+            Table::Book => None,
+            Table::Links => Some(places[3]),
         }
     }
 }
 
 /// Reads the word at the place `j` into the values.
-fn read_word(word: &[u8], j: usize, state_at: usize, values: &mut Values) -> Result<(), WordFault>
+fn read_word(
+    word: &[u8],
+    j: usize,
+    state_at: Option<usize>,
+    values: &mut Values,
+) -> Result<(), WordFault>
     requires { j < 4 }
-    ensures { MatchResult result (λ _. Stored state_at j word.now values.old values.new) (λ fault. WrongWord state_at j word.now fault) }
+    ensures { MatchResult result (λ _. Stored (unwrap_or state_at 4) j word.now values.old values.new) (λ fault. WrongWord (unwrap_or state_at 4) j word.now fault) }
 {
-    if j == state_at {
+    if state_at == Some(j) {
         values.state = State::try_from(word)?;
     } else {
         values.numbers[j] = number(word)?;

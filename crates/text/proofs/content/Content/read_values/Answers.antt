@@ -1,4 +1,4 @@
-use Rattle.std.proofs.Common.{ℕ, List, ◌∙◌, get_or, subst, arith}
+use Rattle.std.proofs.Common.{ℕ, List, ◌∙◌, get_or, unwrap_or, subst, arith}
 use Rattle.text.specs.Columns.{word}
 use Rattle.text.specs.Tables.{width}
 use Rattle.text.specs.Values.{WrongWord, ValuesFault}
@@ -8,7 +8,7 @@ use Rattle.text.proofs.content.Content.read_values.Goals as goal
 pub returns-in-Err : goal.returns-in-Err
 returns-in-Err c =
     let line = c.args.self.now.bytes.now in
-    let state = c.state_at-state_at.result in
+    let state = unwrap_or c.state_at-state_at.result 4 in
     let found = subst (λ (w : List ℕ). WrongWord state c.loop-j.j w c.in-Err.fault) c.word-word.ensures.bytes c.in-Err.ensures in
     let first : ValuesFault (width c.args.table) state line (InWord c.in-Err.fault) c.word-word.result.column
     = word c.loop-j.j (c.in_ok-check_count.ensures ∙ c.width.ensures) (omega arith)
