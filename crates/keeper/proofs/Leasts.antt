@@ -1,10 +1,9 @@
 -- The laws of the lesser of two delays, and what the least of a row of them is.
-use Rattle.std.proofs.Common.{◌≡◌, ℕ, zero, suc, ◌+◌, ◌-◌, ◌<◌, ◌≤◌, min, ◌⊎◌, List, [], ◌∷◌, ◌++◌, length, get_or, take, drop, drop-cons, replicate, Some, None, Option, sym, refl, ap, ◌∙◌, subst, inl, inr, arith, MatchOption}
+use Rattle.std.proofs.Common.{◌≡◌, ℕ, zero, suc, ◌+◌, ◌-◌, ◌<◌, ◌≤◌, min, ◌⊎◌, List, [], ◌∷◌, length, get_or, take, drop, replicate, Some, None, Option, sym, refl, ap, ◌∙◌, subst, inl, inr, arith, MatchOption}
 use lib.ListN.{length-replicate, get_or-replicate}
 use Rattle.std.proofs.lemmas.Bool.{cases_lt}
-use Rattle.std.proofs.lemmas.List.{get_or_past, get_or-take, drop_all, length-take}
-use Rattle.std.specs.List.{reduce, fold, flat_map}
-use Rattle.std.specs.Option.{option_to_list}
+use Rattle.std.proofs.lemmas.List.{get_or_past, drop_more}
+use Rattle.std.specs.List.{reduce, fold, filter_map, cons_option}
 use Rattle.keeper.specs.Keeps.{Keeps, delay_at, NoDelay, LeastFrom}
 use Rattle.keeper.specs.Lesser.{lesser_of, least_in}
 
@@ -122,7 +121,7 @@ none_blank n i = elim (cases_lt i n) [
 ]
 
 -- the least of a list of delays, once one more stands before it
-least_more : (o : Option ℕ) (l : List ℕ) → reduce min (option_to_list o ++ l) ≡ lesser_of o (reduce min l)
+least_more : (o : Option ℕ) (l : List ℕ) → reduce min (cons_option o l) ≡ lesser_of o (reduce min l)
 least_more None l = refl
 least_more (Some x) [] = refl
 least_more (Some x) (y ∷ l) = ap Some (fold_min x y l) where
@@ -130,18 +129,19 @@ least_more (Some x) (y ∷ l) = ap Some (fold_min x y l) where
   fold_min x y [] = refl
   fold_min x y (z ∷ l) = let e : min (min x y) z ≡ min x (min y z) = omega arith in ap (λ (k : ℕ). fold min k l) e ∙ fold_min x (min y z) l
 
--- the least of the delays that stand in a list from one place to before another
-pub least_listed : (l : List (Option ℕ)) (from to many : ℕ) → many ≡ min (length l) to - from
-    → reduce min (flat_map option_to_list (drop from (take to l))) ≡ least_in (λ p. get_or l p None) from many
-least_listed l from to zero e =
-    let past : length (take to l) ≤ from = omega (arith, length-take to l) in
-    ap (λ (k : List (Option ℕ)). reduce min (flat_map option_to_list k)) (drop_all from (take to l) past)
-least_listed l from to (suc many) e =
-    let below : from < to = omega arith in
-    let there : from < length (take to l) = omega (arith, length-take to l) in
-    let next : suc from ≡ from + 1 = omega arith in
-    ap (λ (k : List (Option ℕ)). reduce min (flat_map option_to_list k)) (drop-cons (take to l) from None there)
-    ∙ least_more (get_or (take to l) from None) (flat_map option_to_list (drop (suc from) (take to l)))
-    ∙ ap (λ (o : Option ℕ). lesser_of o (reduce min (flat_map option_to_list (drop (suc from) (take to l))))) (get_or-take to l from None below)
-    ∙ ap (λ (k : ℕ). lesser_of (get_or l from None) (reduce min (flat_map option_to_list (drop k (take to l))))) next
-    ∙ ap (lesser_of (get_or l from None)) (least_listed l (from + 1) to many (omega arith))
+-- the delays that stand in a list
+abbrev pub listed : List (Option ℕ) → List ℕ
+listed l = filter_map (λ o. o) l
+
+-- the least of the delays that stand at `many` places of a list from `from` on
+pub least_listed : (l : List (Option ℕ)) (from many : ℕ) → many ≤ length l - from → reduce min (listed (take many (drop from l))) ≡ least_in (λ p. get_or l p None) from many
+least_listed l from zero le = refl
+least_listed l from (suc many) le =
+    ap (λ (k : List (Option ℕ)). reduce min (listed (take (suc many) k))) (drop_more l from None (omega arith))
+    ∙ least_more (get_or l from None) (listed (take many (drop (from + 1) l)))
+    ∙ ap (lesser_of (get_or l from None)) (least_listed l (from + 1) many (omega arith))
+
+-- rows of as many places are one row if they begin at one place or are empty
+pub same_row : (f : ℕ → Option ℕ) (a b m n : ℕ) → m ≡ n → (0 < n → a ≡ b) → least_in f a m ≡ least_in f b n
+same_row f a b m zero e h = ap (least_in f a) e
+same_row f a b m (suc n) e h = ap (least_in f a) e ∙ ap (λ (k : ℕ). least_in f k (suc n)) (h (omega arith))

@@ -48,12 +48,8 @@ impl Keeper for Table {
     }
 
     fn least(&self, first: u32, last: u32) -> Option<u64> {
-        self.delays
-            .iter()
-            .take(last as usize + 1)
-            .skip(first as usize)
-            .copied()
-            .flatten()
-            .min()
+        let end = self.delays.len().min(last as usize + 1);
+        let start = end.min(first as usize);
+        self.delays[start..end].iter().filter_map(|d| *d).min()
     }
 }

@@ -1,2 +1,1 @@
 pub mod Climbs
-pub mod Nodes

@@ -24,10 +24,7 @@ impl Tree {
     fn delay_at(&self, place: u32) -> Option<u64>
         ensures { result ≡ delay_at (tree_keeps self.now) place }
     {
-        self.nodes
-            .get(self.places as usize + place as usize)
-            .copied()
-            .flatten()
+        *self.nodes.get(self.places as usize + place as usize)?
     }
 
     /// Gives a place a delay or none, and mends the nodes above it.
@@ -36,7 +33,7 @@ impl Tree {
         ensures { tree_keeps self.new ≡ noted (tree_keeps self.old) place d }
     {
         let mut k = self.places as usize + place as usize;
-        let nodes = &mut self.nodes;
+        let nodes = self.nodes.as_mut_slice();
         nodes[k] = d;
         while k >= 2 {
             k /= 2;
@@ -74,11 +71,12 @@ impl Keeper for Tree {
 
     fn least(&self, first: u32, last: u32) -> Option<u64> {
         let n = self.places as usize;
+        let nodes = self.nodes.as_slice();
         let mut low = n + first as usize;
         let mut high = n + n.min(last as usize + 1);
         let mut best = None;
         while low < high {
-            best = lesser(best, lesser(self.nodes[low], self.nodes[high - 1]));
+            best = lesser(best, lesser(nodes[low], nodes[high - 1]));
             low = (low + 1) / 2;
             high /= 2;
         }
