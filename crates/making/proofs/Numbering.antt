@@ -8,7 +8,7 @@ use Rattle.network.proofs.Routes.{hop_delay}
 use Rattle.tree.specs.Components.{Forms}
 use Rattle.tree.specs.Joining.{Earlier}
 use Rattle.making.specs.declared.nodes.Node.{Node}
-use Rattle.making.specs.Numbers.{Passed, Placed, Numbered, no_node, level_of, lowest_of}
+use Rattle.making.specs.Numbers.{StationsFirst, Passed, Placed, Numbered, no_node, level_of, lowest_of}
 
 more : {i s : ℕ} (j r : ℕ) → Passed i s j r → Passed i (suc s) j r
 more j r = elim [ inl h ↦ inl h | inr h ↦ inr (h.0, omega (arith, h.1)) ]
@@ -100,6 +100,10 @@ module _ {g : Network} {i s : ℕ} {nodes : List Node} (w : Numbered g i s nodes
   one_more =
       let e : suc s ≡ s + 1 = omega arith in
       subst (λ z. Numbered g i z (nodes ++ m ∷ [])) e (record { stations = omega (arith, longer, w.stations); forms = forms'; past = past'; every = every'; order = order' })
+
+-- what is added stands after the stations
+pub first_more : {n : ℕ} (nodes : List Node) (m : Node) → n ≤ length nodes → StationsFirst n nodes → StationsFirst n (nodes ++ m ∷ [])
+first_more {n} nodes m all first x h = get_or_append_left nodes (m ∷ []) no_node x (omega arith) ∙ first x h
 
 -- all stations have been gone through: the next level begins
 pub level_numbered : {g : Network} {i : ℕ} {nodes : List Node} (s : ℕ) → g.stations ≤ s → Numbered g i s nodes → Numbered g (suc i) 0 nodes

@@ -15,6 +15,10 @@ level_of nodes x = (slice_index_or nodes x no_node).level
 abbrev pub lowest_of : List Node → ℕ → ℕ
 lowest_of nodes x = (slice_index_or nodes x no_node).lowest
 
+-- the first n nodes are the stations, each by itself, of level 0
+abbrev pub StationsFirst : ℕ → List Node → Type 0
+StationsFirst n nodes = (x : ℕ) → x < n → slice_index_or nodes x no_node ≡ record { level = 0; lowest = x }
+
 -- all levels up to i have been gone through, and of the level after it the stations below s
 abbrev pub Passed : ℕ → ℕ → ℕ → ℕ → Type 0
 Passed i s j r = (j ≤ i) ⊎ ((j ≡ suc i) × (r < s))

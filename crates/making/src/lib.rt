@@ -3,6 +3,6 @@
 #![tactic(auto)]
 
 pub mod groups;
-pub mod levels;
+pub mod growth;
 pub mod measures;
 pub mod nodes;

@@ -33,7 +33,7 @@ impl Model for Nodes {
 }
 
 impl Nodes {
-    ghost use Rattle.making.specs.Numbers.{Numbered, Few};
+    ghost use Rattle.making.specs.Numbers.{StationsFirst, Numbered, Few};
 
     /// Memory for the tree of the largest network. It holds no node.
     pub(crate) fn new(heap: Global) -> Result<Nodes, AllocError>
@@ -46,10 +46,12 @@ impl Nodes {
 
     /// Before the first level each station is a node by itself, of level 0.
     pub(crate) fn begin(&mut self, scheme: &Scheme)
+        ensures first { StationsFirst scheme.now.stations self.new }
         ensures numbered { Numbered (network_of scheme.now) 0 0 self.new }
         ensures room { length self.new ≤ 1024 }
     {
         self.list.clear();
+        // Kept: a push into reserved room cannot fail, while `extend` may ask for memory.
         for station in 0..scheme.stations {
             self.list.push_reserved(Node {
                 level: 0,
@@ -67,6 +69,7 @@ impl Nodes {
         requires labels { Labels (network_of scheme.now) (suc done) (label_of groups.now) }
         requires numbered { Numbered (network_of scheme.now) done 0 self.old }
         ensures numbered { Numbered (network_of scheme.now) (suc done) 0 self.new }
+        ensures first { StationsFirst scheme.now.stations self.old → StationsFirst scheme.now.stations self.new }
         ensures room { length self.new ≤ 1024 }
     {
         for s in 0..scheme.stations {

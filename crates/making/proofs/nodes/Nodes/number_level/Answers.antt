@@ -1,8 +1,8 @@
 use Rattle.std.proofs.Common.{◌≡◌, ◌+◌, List, suc, sym, refl, subst, arith, ◌<◌, length}
 use Rattle.network.specs.Schemes.{network_of}
 use Rattle.making.specs.declared.nodes.Node.{Node}
-use Rattle.making.specs.Numbers.{Numbered}
-use Rattle.making.proofs.Numbering.{none_here, one_more}
+use Rattle.making.specs.Numbers.{StationsFirst, Numbered}
+use Rattle.making.proofs.Numbering.{none_here, one_more, first_more}
 use Rattle.making.proofs.nodes.Nodes.number_level.Goals as goal
 use Rattle.making.proofs.nodes.Nodes.number_level.Goals.{then-forms, else-forms}
 
@@ -22,7 +22,8 @@ loop-s-preserved c =
             room = omega (arith, e.capacity);
             numbered = subst (λ (nodes : List Node). Numbered (network_of c.args.scheme.now) c.args.done (l.s + 1) nodes) (sym e.items)
                 (one_more i.numbered (told.0 w.if-forms.true) _ level refl);
+            first = λ h. subst (StationsFirst c.args.scheme.now.stations) (sym e.items) (first_more _ _ i.numbered.stations (i.first h));
           })
       | else-forms w ↦
-          rw w.self-inside-is (record { few = i.few; room = i.room; numbered = none_here i.numbered (λ f. let yes = told.1 f in let no = w.if-forms.false in cc) })
+          rw w.self-inside-is (record { few = i.few; room = i.room; numbered = none_here i.numbered (λ f. let yes = told.1 f in let no = w.if-forms.false in cc); first = i.first })
     ]

@@ -1,0 +1,74 @@
+ghost use Rattle.std.specs.Prelude.{◌≡◌, suc, ◌<◌, ◌≤◌, IfOk, [], length};
+ghost use Rattle.network.specs.Network.{Small};
+ghost use Rattle.network.specs.Schemes.{network_of};
+ghost use Rattle.making.specs.Joins.{Grown};
+ghost use Rattle.making.specs.Numbers.{StationsFirst, Numbered, Few};
+
+use super::groups::Groups;
+use super::nodes::Nodes;
+use network::scheme::Scheme;
+use std::alloc::{AllocError, Global};
+
+/// The groups of a scheme while they grow, level by level, and the nodes found so far.
+#[derive(Drop)]
+pub(crate) struct Growth {
+    pub groups: Groups,
+    pub nodes: Nodes,
+}
+
+impl Growth {
+    /// Memory for the largest network. It holds no station and no node, and later nothing more is asked for.
+    pub(crate) fn new(heap: Global) -> Result<Growth, AllocError>
+        ensures { IfOk result (λ growth. (growth.groups ≡ []) × (growth.nodes ≡ [])) }
+    {
+        Ok(Growth {
+            groups: Groups::new(heap)?,
+            nodes: Nodes::new(heap)?,
+        })
+    }
+
+    /// Goes through the level after `done`: joins its groups and numbers those that form.
+    fn grow_level(&mut self, scheme: &Scheme, done: u32)
+        requires few { Few (network_of scheme.now) 1024 }
+        requires low { done < 32 }
+        requires grown { Grown (network_of scheme.now) (Small (network_of scheme.now) done) self.old.groups }
+        requires numbered { Numbered (network_of scheme.now) done 0 self.old.nodes }
+        ensures grown { Grown (network_of scheme.now) (Small (network_of scheme.now) (suc done)) self.new.groups }
+        ensures numbered { Numbered (network_of scheme.now) (suc done) 0 self.new.nodes }
+        ensures first { StationsFirst scheme.now.stations self.old.nodes → StationsFirst scheme.now.stations self.new.nodes }
+        ensures room { length self.new.nodes ≤ 1024 }
+    {
+        self.groups.keep();
+        self.groups.join_level(scheme, done);
+        self.nodes.number_level(scheme, done, &self.groups);
+    }
+
+    /// Goes through all 32 levels, from the stations by themselves on.
+    fn grow_levels(&mut self, scheme: &Scheme)
+        requires few { Few (network_of scheme.now) 1024 }
+        requires grown { Grown (network_of scheme.now) (Small (network_of scheme.now) 0) self.old.groups }
+        requires numbered { Numbered (network_of scheme.now) 0 0 self.old.nodes }
+        requires room { length self.old.nodes ≤ 1024 }
+        ensures grown { Grown (network_of scheme.now) (Small (network_of scheme.now) 32) self.new.groups }
+        ensures numbered { Numbered (network_of scheme.now) 32 0 self.new.nodes }
+        ensures first { StationsFirst scheme.now.stations self.old.nodes → StationsFirst scheme.now.stations self.new.nodes }
+        ensures room { length self.new.nodes ≤ 1024 }
+    {
+        for done in 0..32 {
+            self.grow_level(scheme, done);
+        }
+    }
+
+    /// From a scheme to its groups: joins and numbers them through all levels.
+    pub(crate) fn grow(&mut self, scheme: &Scheme)
+        requires { Few (network_of scheme.now) 1024 }
+        ensures grown { Grown (network_of scheme.now) (Small (network_of scheme.now) 32) self.new.groups }
+        ensures numbered { Numbered (network_of scheme.now) 32 0 self.new.nodes }
+        ensures first { StationsFirst scheme.now.stations self.new.nodes }
+        ensures room { length self.new.nodes ≤ 1024 }
+    {
+        self.groups.begin(scheme);
+        self.nodes.begin(scheme);
+        self.grow_levels(scheme);
+    }
+}
