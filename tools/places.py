@@ -78,7 +78,7 @@ def hand_matches():
 
 def numbers():
     """Kinds or refusals told as numbers, or picked by one."""
-    return matching(r"fn number\(|match random|=> \d+,$")
+    return matching(r"fn number\(&?self\) -> u8|match random|fn \w+\([^)]*\) -> u8 \{$")
 
 
 def twins():
@@ -100,8 +100,8 @@ def twins():
 
 
 def loops():
-    """Loops over a range of numbers, and loops with a test."""
-    return matching(r"\bfor \w+ in [^{]*\.\.|\bwhile ")
+    """Loops over a range of numbers that name the number, and loops with a test."""
+    return matching(r"\bfor (?!_)\w+ in [^{]*\.\.|\bwhile (?!let)")
 
 
 def counters():
@@ -111,7 +111,7 @@ def counters():
 
 def by_hand():
     """Comparisons, conversions and prints by hand: functions that convert or compare, and locals made to be printed."""
-    return matching(r"fn (same|kind_of|state_of|spelling|number|row|permit|row_of|rows_of)\b|^\s*let (\w+) = [\w.]+\.\2(\(\))?;$")
+    return matching(r"fn (same|kind_of|state_of|spelling|rows_of|link_memory)\b|fn (number|row|permit)\(&?self\)|^\s*let (\w+) = [\w.]+\.\3(\(\))?;$")
 
 
 def travelling():

@@ -56,6 +56,7 @@ impl Content<'_> {
         // Kept: a word is looked up by its number, as for a fault's column; an iterator would be a second way to find words.
         for j in 0..table.width() {
             let word = self.word(j);
+            // Kept: a match, since with `map_err` and a closure the goals of what is returned do not close.
             match new_name(word.bytes, table, places) {
                 Ok(i) => places[i] = j,
                 Err(cause) => return Err(self.fault(cause, word.column)),

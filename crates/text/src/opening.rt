@@ -65,6 +65,7 @@ impl<'a> Source<'a> {
         ensures { MatchResult result (λ _. AllSound stations links.now (length links.now)) (λ f. RowRefused self.now.bytes.now places stations links.now (length links.now) f) }
     {
         for (k, link) in links.iter().enumerate() {
+            // Kept: a test, since a closure under `map_err` would need the bounds of the text and of the word in clauses of its own.
             if let Err(refusal) = Link::of_row(link.row, stations) {
                 let word = word_at_fault(refusal, stations, places);
                 return Err(self.fault_at_word(4 + k, word, BookFault::Row(refusal).into()));

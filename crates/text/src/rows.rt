@@ -62,6 +62,7 @@ impl Cursor<'_> {
             (λ link. NextStands self.old × (full ≡ false) × SpelledLink places.places (words (next self.old)) link × Moved self.old self.new)
             (λ f. AtLine self.old.line f (RowFault (text_of self.old) places.places (full ≡ true) self.old.line))) }
     {
+        // Kept: a match, since with `and_then` the closure would need the line's facts in clauses of its own.
         match self.next_content(Role::AsValues)? {
             Ok(line) => Some(places.read_row(&line, full)),
             Err(fault) => Some(Err(fault)),

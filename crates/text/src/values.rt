@@ -60,6 +60,7 @@ impl Content<'_> {
         // Kept: a word is looked up by its number, as for a fault's column; an iterator would be a second way to find words.
         for j in 0..table.width() {
             let word = self.word(j);
+            // Kept: a test, since with `map_err` and a closure the goals of what is returned do not close.
             if let Err(fault) = read_word(word.bytes, j, state_at, &mut values) {
                 return Err(self.fault(fault.into(), word.column));
             }
