@@ -1,7 +1,6 @@
-ghost use Rattle.std.specs.Prelude.{◌≡◌, ◌+◌, ◌<◌, drop, replicate, IfOk, None, vec_len};
+ghost use Rattle.std.specs.Prelude.{◌≡◌, ◌<◌, IfOk};
 ghost use Rattle.keeper.specs.Keeps.{all_none, delay_at, noted};
 ghost use Rattle.keeper_tree.specs.Means.{tree_keeps};
-ghost use Rattle.keeper_tree.specs.Trees.{Over, OverBut, under};
 ghost use Rattle.std.proofs.Common.{◌-◌, sym, ap, ◌∙◌, length-drop};
 ghost use Rattle.std.proofs.Math.Nat.{add-sub_cancel};
 
