@@ -1,6 +1,7 @@
 -- What the entries say of the links agrees with what the book holds, all along a history; so each entry is right.
-use Rattle.std.proofs.Common.{◌≡◌, ℕ, ◌<◌, Bool, true, false, cond, eqb, List, [], ◌∷◌, length, get_or, set, Ok, Err, sym, refl, ap, ◌∙◌, subst, arith, length-set, get_or-set_other, get_or-set_same, eq-eqb, ne_eqb}
-use native.Mathlib.Decide.{ℕ_discrete}
+use Rattle.std.proofs.Common.{◌≡◌, ℕ, ◌<◌, Bool, true, false, cond, eqb, List, [], ◌∷◌, length, get_or, set, Ok, Err, sym, refl, ap, ◌∙◌, arith, length-set}
+use Rattle.std.proofs.lemmas.Grind.{common_steps}
+use Rattle.std.proofs.lemmas.Bool.Decides.{nat_tests}
 use Rattle.std.proofs.lemmas.List.{get_or-replicate, length-replicate}
 use Rattle.std.proofs.lemmas.Bool.{false_from_ne_true, true≢false}
 use Rattle.book.specs.declared.permit.Permit.{Permit}
@@ -21,15 +22,7 @@ pub record Agrees (o : Opening) (es : List Entry) (b : Matter) : Type 0 where
 
 -- a list read after a write
 read_set : (l : List Bool) (i k : ℕ) (v : Bool) → i < length l → get_or (set l i v) k false ≡ cond (eqb k i) v (get_or l k false)
-read_set l i k v h = go (ℕ_discrete k i)
-  where
-    go : Dec (k ≡ i) → get_or (set l i v) k false ≡ cond (eqb k i) v (get_or l k false)
-    go (yes e) =
-        let t = eq-eqb k i e in
-        rw t (ap (λ (j : ℕ). get_or (set l i v) j false) e ∙ get_or-set_same l i v false h)
-    go (no n) =
-        let t = ne_eqb k i n in
-        rw t (get_or-set_other l i k v false n)
+read_set l i k v h = grind (arith, common_steps, nat_tests)
 
 module _ {o : Opening} {es : List Entry} {b : Matter} (a : Agrees o es b) where
   many : links b ≡ length o.rows
@@ -132,27 +125,17 @@ module _ {o : Opening} {es : List Entry} {b : Matter} (a : Agrees o es b) where
       }
 
   next : (e : Entry) (b' : Matter) → Does b e b' → Agrees o (e ∷ es) b'
-  next (withdraw link (Ok p)) b' d =
-      subst (λ (x : Matter). Agrees o (withdraw link (Ok p) ∷ es) x) (sym d.5)
-      (agrees_serviced link false (withdraw link (Ok p) ∷ es) (omega (arith, many, d.0)) (λ i. refl) (λ i. refl))
-  next (withdraw link (Err why)) b' d =
-      subst (λ (x : Matter). Agrees o (withdraw link (Err why) ∷ es) x) (sym d.1) (agrees_same (withdraw link (Err why) ∷ es) (λ i. refl) (λ i. refl))
-  next (give_back p (Ok done)) b' d =
-      subst (λ (x : Matter). Agrees o (give_back p (Ok done) ∷ es) x) (sym d.1)
-      (agrees_serviced p.link true (give_back p (Ok done) ∷ es) (omega (arith, many, d.0.out.listed)) (λ i. refl) (λ i. refl))
-  next (give_back p (Err why)) b' d =
-      subst (λ (x : Matter). Agrees o (give_back p (Err why) ∷ es) x) (sym d.1) (agrees_same (give_back p (Err why) ∷ es) (λ i. refl) (λ i. refl))
-  next (strike p (Ok done)) b' d =
-      subst (λ (x : Matter). Agrees o (strike p (Ok done) ∷ es) x) (sym d.1)
-      (agrees_stricken p.link (strike p (Ok done) ∷ es) (omega (arith, many, d.0.out.listed)) (λ i. refl) (λ i. refl))
-  next (strike p (Err why)) b' d =
-      subst (λ (x : Matter). Agrees o (strike p (Err why) ∷ es) x) (sym d.1) (agrees_same (strike p (Err why) ∷ es) (λ i. refl) (λ i. refl))
-  next (annul p answer) b' d =
-      subst (λ (x : Matter). Agrees o (annul p answer ∷ es) x) (sym d.1) (agrees_same (annul p answer ∷ es) (λ i. refl) (λ i. refl))
+  next (withdraw link (Ok p)) b' d = rw d.5 (agrees_serviced link false _ (omega (arith, many, d.0)) (λ i. refl) (λ i. refl))
+  next (withdraw link (Err why)) b' d = rw d.1 (agrees_same _ (λ i. refl) (λ i. refl))
+  next (give_back p (Ok done)) b' d = rw d.1 (agrees_serviced p.link true _ (omega (arith, many, d.0.out.listed)) (λ i. refl) (λ i. refl))
+  next (give_back p (Err why)) b' d = rw d.1 (agrees_same _ (λ i. refl) (λ i. refl))
+  next (strike p (Ok done)) b' d = rw d.1 (agrees_stricken p.link _ (omega (arith, many, d.0.out.listed)) (λ i. refl) (λ i. refl))
+  next (strike p (Err why)) b' d = rw d.1 (agrees_same _ (λ i. refl) (λ i. refl))
+  next (annul p answer) b' d = rw d.1 (agrees_same _ (λ i. refl) (λ i. refl))
 
 begun : (o : Opening) (b b' : Matter) → Opens b o.number o.stations o.rows (Ok tt) b' → Agrees o [] b'
 begun o b b' d =
-    subst (λ (x : Matter). Agrees o [] x) (sym d.3) (record {
+    rw d.3 (record {
       number = refl;
       rows = refl;
       serviced = length-replicate (length o.rows) true;

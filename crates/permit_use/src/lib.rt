@@ -22,6 +22,7 @@ pub fn out_and_back(book: &mut Book, link: u32) -> bool
     true
 }
 
+// Kept: one function over a closure would ask of the closure all that giving back or striking promises, to save two lines of each.
 /// Takes a link out of service for good; false where it was not in service.
 #[tactic(auto, using(book::proofs::Permits::struck))]
 pub fn out_for_good(book: &mut Book, link: u32) -> bool
