@@ -1,4 +1,4 @@
--- A permit that was withdrawn just now can be given back or struck: a link in service is not struck.
+-- No link is both in service and struck; so a permit that was withdrawn just now can be given back or struck.
 use Rattle.std.proofs.Common.{◌≡◌, ℕ, ◌<◌, true, false, get_or, length, vec_items, Ok, Err, Result, refl, sym, ◌∙◌, arith}
 use Rattle.std.specs.Result.{IsOk}
 use Rattle.std.proofs.lemmas.Bool.{true≢false}
@@ -22,7 +22,7 @@ stands_once In h = refl
 stands_once Out h = refl
 stands_once Struck h = absurd (true≢false (sym h))
 
-served_not_struck : (s : Scheme) (k : ℕ) → get_or (network_of s).service k false ≡ true → get_or (struck_of s) k false ≡ false
+pub served_not_struck : (s : Scheme) (k : ℕ) → get_or (network_of s).service k false ≡ true → get_or (struck_of s) k false ≡ false
 served_not_struck s k h =
     let entry : Entry = get_or (vec_items s.links) k no_entry in
     get_or-map (λ (e : Entry). is_struck e.standing) (vec_items s.links) k no_entry
