@@ -4,7 +4,7 @@ use native.Mathlib.Decide.{dec_lt}
 use Rattle.std.proofs.lemmas.List.{get_or_past, get_or_default}
 use Rattle.network.specs.Network.{Network}
 use Rattle.tree.specs.Components.{Forms}
-use Rattle.tree.proofs.Making.{Labels, made_forms, forms_label, forms_made}
+use Rattle.tree.proofs.Making.{Labels, made_forms, forms_made}
 use Rattle.making.specs.declared.groups.Member.{Member}
 use Rattle.making.specs.Members.{alone, label_of, before_of}
 
@@ -20,9 +20,6 @@ Taken members s = (r : ℕ) × (r < length members) × (r ≢ s) × (before_of m
 module _ {g : Network} {i s : ℕ} (members : List Member) (was : Labels g i (before_of members)) (now : Labels g (suc i) (label_of members)) (all : length members ≡ g.stations) where
   pub taken_forms : s < length members → label_of members s ≡ s → Taken members s → Forms g (suc i) s
   taken_forms h still t = made_forms was now (omega arith) still (record { was = t.3; other = t.2; now = t.4 })
-
-  pub forms_still : Forms g (suc i) s → label_of members s ≡ s
-  forms_still f = forms_label was now f
 
   pub forms_taken : s < length members → Forms g (suc i) s → Taken members s
   forms_taken h f =
