@@ -36,7 +36,6 @@ impl Growth {
         ensures grown { Grown (network_of scheme.now) (Small (network_of scheme.now) (suc done)) self.new.groups }
         ensures numbered { Numbered (network_of scheme.now) (suc done) 0 self.new.nodes }
         ensures first { StationsFirst scheme.now.stations self.old.nodes → StationsFirst scheme.now.stations self.new.nodes }
-        ensures room { length self.new.nodes ≤ 1024 }
     {
         self.groups.keep();
         self.groups.join_level(scheme, done);
@@ -48,27 +47,27 @@ impl Growth {
         requires few { Few (network_of scheme.now) 1024 }
         requires grown { Grown (network_of scheme.now) (Small (network_of scheme.now) 0) self.old.groups }
         requires numbered { Numbered (network_of scheme.now) 0 0 self.old.nodes }
-        requires room { length self.old.nodes ≤ 1024 }
         ensures grown { Grown (network_of scheme.now) (Small (network_of scheme.now) 32) self.new.groups }
         ensures numbered { Numbered (network_of scheme.now) 32 0 self.new.nodes }
         ensures first { StationsFirst scheme.now.stations self.old.nodes → StationsFirst scheme.now.stations self.new.nodes }
-        ensures room { length self.new.nodes ≤ 1024 }
     {
         for done in 0..32 {
             self.grow_level(scheme, done);
         }
     }
 
-    /// From a scheme to its groups: joins and numbers them through all levels.
-    pub(crate) fn grow(&mut self, scheme: &Scheme)
+    /// From a scheme to its groups: joins and numbers them through all levels. Returns how many nodes there are.
+    pub(crate) fn grow(&mut self, scheme: &Scheme) -> usize
         requires { Few (network_of scheme.now) 1024 }
         ensures grown { Grown (network_of scheme.now) (Small (network_of scheme.now) 32) self.new.groups }
         ensures numbered { Numbered (network_of scheme.now) 32 0 self.new.nodes }
         ensures first { StationsFirst scheme.now.stations self.new.nodes }
-        ensures room { length self.new.nodes ≤ 1024 }
+        ensures all { result ≡ length self.new.nodes }
+        ensures room { result ≤ 1024 }
     {
         self.groups.begin(scheme);
         self.nodes.begin(scheme);
         self.grow_levels(scheme);
+        self.nodes.len()
     }
 }

@@ -44,11 +44,18 @@ impl Nodes {
         })
     }
 
+    /// How many nodes there are.
+    pub(crate) fn len(&self) -> usize
+        ensures is { result ≡ length self.now }
+        ensures room { result ≤ 1024 }
+    {
+        self.list.len()
+    }
+
     /// Before the first level each station is a node by itself, of level 0.
     pub(crate) fn begin(&mut self, scheme: &Scheme)
         ensures first { StationsFirst scheme.now.stations self.new }
         ensures numbered { Numbered (network_of scheme.now) 0 0 self.new }
-        ensures room { length self.new ≤ 1024 }
     {
         self.list.clear();
         // Kept: a push into reserved room cannot fail, while `extend` may ask for memory.
@@ -70,7 +77,6 @@ impl Nodes {
         requires numbered { Numbered (network_of scheme.now) done 0 self.old }
         ensures numbered { Numbered (network_of scheme.now) (suc done) 0 self.new }
         ensures first { StationsFirst scheme.now.stations self.old → StationsFirst scheme.now.stations self.new }
-        ensures room { length self.new ≤ 1024 }
     {
         for s in 0..scheme.stations {
             if groups.forms(s) {

@@ -1,4 +1,3 @@
-use Rattle.std.proofs.Common.{◌≤◌, length}
 use Rattle.network.specs.Network.{Small}
 use Rattle.network.specs.Schemes.{network_of}
 use Rattle.making.specs.Joins.{Grown}
@@ -10,5 +9,4 @@ invariant-loop-done l = record {
   grown : Grown (network_of l.scheme) (Small (network_of l.scheme) l.done) l.self.groups;
   numbered : Numbered (network_of l.scheme) l.done 0 l.self.nodes;
   first : StationsFirst l.scheme.stations l.initial.self.nodes → StationsFirst l.scheme.stations l.self.nodes;
-  room : length l.self.nodes ≤ 1024;
 }
