@@ -1,12 +1,11 @@
 -- Putting the children of a node, one after the other.
-use Rattle.std.proofs.Common.{◌≡◌, ℕ, zero, suc, ◌+◌, ◌<◌, ◌≤◌, List, [], ◌∷◌, length, get_or, take, None, Option, sym, refl, ◌∙◌, subst, inl, inr, arith}
+use Rattle.std.proofs.Common.{◌≡◌, ℕ, zero, suc, ◌+◌, ◌<◌, ◌≤◌, List, [], ◌∷◌, length, get_or, take, None, sym, refl, ◌∙◌, subst, inl, inr, arith}
 use Rattle.std.proofs.lemmas.List.{take_more, length-take-le}
 use Rattle.tree.specs.Tree.{Tree, Among, Distinct}
+use Rattle.walk.specs.State.{Shelf, Core, shelved}
 use Rattle.walk.specs.Rules.{Puts, done, put}
 use Rattle.walk.proofs.Handover.{placed_moved, puts_then, puts_few}
 use Rattle.walk.proofs.Keep.{puts_off}
-use Rattle.shelf.specs.Holds.{Holds, bucket_at}
-use Rattle.settling.specs.Means.{shelf_of}
 use Rattle.settling.specs.Asks.{Brought}
 
 pub among_at : (xs : List ℕ) (i : ℕ) → i < length xs → Among (get_or xs i 0) xs
@@ -20,13 +19,13 @@ not_before (x ∷ xs) zero d h a = a
 not_before (x ∷ xs) (suc i) d h (inl e) = d.0 (subst (λ (y : ℕ). Among y xs) e (among_at xs i (omega arith)))
 not_before (x ∷ xs) (suc i) d h (inr a) = not_before xs i d.1 (omega arith) a
 
-module _ (t : Tree) (so_far base : ℕ → Option ℕ) (xs : List ℕ) (i : ℕ) (H h : Holds) (less : i < length xs) (puts : Puts t so_far base (take i xs) (shelf_of H) (shelf_of h)) where
-  pub still_few : H.puts + length xs ≤ 65535 → h.puts < 65535
+module _ (t : Tree) (s : Core) (xs : List ℕ) (i : ℕ) (h : Shelf) (less : i < length xs) (puts : Puts t s.so_far s.base (take i xs) s.shelf h) where
+  pub still_few : s.shelf.puts + length xs ≤ 65535 → h.puts < 65535
   still_few few = omega (arith, puts_few puts, length-take-le i xs (omega arith))
 
-  pub next_child : (h' : Holds) → Distinct xs → bucket_at H (get_or xs i 0) ≡ None → Brought t so_far base (get_or xs i 0) h h'
-      → Puts t so_far base (take (i + 1) xs) (shelf_of H) (shelf_of h')
+  pub next_child : (h' : Shelf) → Distinct xs → s.shelf.bucket (get_or xs i 0) ≡ None → Brought t (shelved s h) (get_or xs i 0) h'
+      → Puts t s.so_far s.base (take (i + 1) xs) s.shelf h'
   next_child h' once free br =
-      let here : bucket_at h (get_or xs i 0) ≡ None = puts_off (get_or xs i 0) (not_before xs i once less) puts ∙ free in
-      subst (λ (cs : List ℕ). Puts t so_far base cs (shelf_of H) (shelf_of h')) (sym (take_more xs i 0 less))
+      let here : h.bucket (get_or xs i 0) ≡ None = puts_off (get_or xs i 0) (not_before xs i once less) puts ∙ free in
+      subst (λ (cs : List ℕ). Puts t s.so_far s.base cs s.shelf h') (sym (take_more xs i 0 less))
       (puts_then puts (put br.to br.belongs (placed_moved here br.moved) done))

@@ -5,7 +5,6 @@ pub mod Kids
 pub mod Looks
 pub mod Lowers
 pub mod Places
-pub mod Rooms
 pub mod Schemes
 pub mod Stacks
 pub mod Theory
@@ -13,3 +12,4 @@ pub mod Trails
 pub mod Trees
 pub mod Turns
 pub mod Visits
+pub mod Walkers

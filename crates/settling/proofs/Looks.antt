@@ -7,17 +7,17 @@ use Rattle.network.specs.Network.{Network}
 use Rattle.tree.specs.Tree.{Tree}
 use Rattle.tree.proofs.Words.{some_none, same_some}
 use Rattle.walk.specs.declared.frame.Frame.{Frame}
-use Rattle.walk.specs.State.{Core, Changed}
+use Rattle.walk.specs.State.{Shelf, Core, Changed, shelved}
 use Rattle.walk.specs.Rules.{Lowest}
-use Rattle.walk.specs.Steps.{Going, Ended, risen, coarse, Now, Step, leave, end}
+use Rattle.walk.specs.Steps.{Going, Ended, risen, coarse, Now, Taken, Step, leave, end}
 use Rattle.walk.proofs.Handover.{placed_moved}
 use Rattle.walk.proofs.Runs.{changed_set}
 use Rattle.shelf.specs.Holds.{Holds, Bare, bucket_at, lifted}
 use Rattle.keeper.specs.Keeps.{Keeps}
 use Rattle.settling.specs.declared.trail.Trail.{Trail}
-use Rattle.settling.specs.Means.{base_of, count_of, sofar_of, shelf_of, core_of}
+use Rattle.settling.specs.Means.{base_of, count_of, shelf_of, core_of}
 use Rattle.settling.specs.Asks.{Brought}
-use Rattle.settling.specs.Parts.{Watch, Counting, FoundEmpty, Took}
+use Rattle.settling.specs.Parts.{Watch, Counting, FoundEmpty}
 
 -- what is there is some number
 pub some_where : (o : Option ℕ) → is_some o ≡ true → (x : ℕ) × (o ≡ Some x)
@@ -39,12 +39,12 @@ module _ (t : Tree) (s : Core) (f : Frame) (d : ℕ) (l : Lowest t s.so_far f.no
   decided p k up is false e = risen p (sym up) (λ w. eqb-false k f.began (sym e) (is ∙ w))
 
 -- the visit f is over
-module _ (g : Network) (t : Tree) (w : Trail) (h : Holds) (k : Keeps) (f : Frame) (fs : List Frame) (ended : Ended t (core_of t w h k) f) where
-  pub step_leave : (h' : Holds) (p : ℕ) → t.parent f.node ≡ Some p → bucket_at h f.node ≡ None → Brought t (sofar_of t k) (base_of w) f.node h h'
-      → Step g t (record { core = core_of t w h k; frames = f ∷ fs }) (record { core = core_of t w h' k; frames = fs })
-  step_leave h' p up free br = leave f fs p br.to (shelf_of h') refl ended up br.belongs (placed_moved free br.moved)
+module _ (g : Network) (t : Tree) (s : Core) (f : Frame) (fs : List Frame) (ended : Ended t s f) where
+  pub step_leave : (h' : Shelf) (p : ℕ) → t.parent f.node ≡ Some p → s.shelf.bucket f.node ≡ None → Brought t s f.node h'
+      → Step g t (record { core = s; frames = f ∷ fs }) (record { core = shelved s h'; frames = fs })
+  step_leave h' p up free br = leave f fs p br.to h' refl ended up br.belongs (placed_moved free br.moved)
 
-  pub step_end : t.parent f.node ≡ None → Step g t (record { core = core_of t w h k; frames = f ∷ fs }) (record { core = core_of t w h k; frames = fs })
+  pub step_end : t.parent f.node ≡ None → Step g t (record { core = s; frames = f ∷ fs }) (record { core = s; frames = fs })
   step_end up = end f fs refl ended up
 
 pub in_items : (h : Holds) (c b : ℕ) → bucket_at h c ≡ Some b → c < length h.at
@@ -59,17 +59,13 @@ module _ (t : Tree) (w : Trail) (h h' : Holds) (k : Keeps) (x start b : ℕ) (co
       record { start = start; based = sym based; spot = omega (arith, counting.from, e) }
 
   pub looked : (r : Option ℕ) → MatchOption r (Bare h b × (h' ≡ h)) (λ i. (bucket_at h i ≡ Some b) × (h' ≡ lifted h i))
-      → MatchOption r (FoundEmpty t (core_of t w h k) x h h') (λ c. Took t (core_of t w h k) x c h h')
-  looked None e = record { k = count_of w x - start; now = at_bucket; bare = λ c q. e.0 c (q ∙ ap Some (sym is)); same = e.1 }
+      → MatchOption r (FoundEmpty t (core_of t w h k) x (shelf_of h')) (λ c. Taken t (core_of t w h k) x c (shelf_of h'))
+  looked None e = record { k = count_of w x - start; now = at_bucket; bare = λ c q. e.0 c (q ∙ ap Some (sym is)); same = ap shelf_of e.1 }
   looked (Some c) e =
       record {
-        taken = record {
-          k = count_of w x - start;
-          now = at_bucket;
-          item = e.0 ∙ ap Some is;
-          off = subst (λ (z : Holds). Changed (bucket_at h) c None (bucket_at z)) (sym e.1) (changed_set h.at c None None (in_items h c b e.0));
-          puts = ap (λ (z : Holds). z.puts) e.1;
-        };
-        items = ap (λ (z : Holds). z.items) e.1;
-        buckets = ap (λ (z : Holds). z.buckets) e.1;
+        k = count_of w x - start;
+        now = at_bucket;
+        item = e.0 ∙ ap Some is;
+        off = subst (λ (z : Holds). Changed (bucket_at h) c None (bucket_at z)) (sym e.1) (changed_set h.at c None None (in_items h c b e.0));
+        puts = ap (λ (z : Holds). z.puts) e.1;
       }

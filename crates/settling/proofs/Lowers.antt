@@ -4,12 +4,12 @@ use Rattle.std.proofs.lemmas.Bool.{cases_lt}
 use Rattle.network.specs.Network.{Network, Hop, delay}
 use Rattle.tree.specs.Tree.{Tree, Runs, Fits}
 use Rattle.tree.proofs.Words.{some_none}
-use Rattle.walk.specs.State.{Core, Changed}
+use Rattle.walk.specs.State.{Shelf, Core, Changed, shelved}
 use Rattle.walk.specs.Rules.{Front, Link, skip, keep, lower}
 use Rattle.shelf.specs.Holds.{Holds}
 use Rattle.keeper.specs.Keeps.{Keeps, MayLower, delay_at, noted}
 use Rattle.settling.specs.declared.trail.Trail.{Trail}
-use Rattle.settling.specs.Means.{final_of, base_of, sofar_of, shelf_of, core_of}
+use Rattle.settling.specs.Means.{final_of, base_of, sofar_of, core_of}
 use Rattle.settling.specs.Asks.{Brought}
 use Rattle.settling.proofs.Keepers.{sofar_in, changed_noted}
 
@@ -49,9 +49,9 @@ module _ (g : Network) (t : Tree) (w : Trail) (h : Holds) (k k' : Keeps) (v d e 
   lowered_at runs len e' =
       subst (λ (z : ℕ). Changed (sofar_of t k) u (Some z) (sofar_of t k')) is_sum (changed_noted t k k' u p (Some s) runs len st is_place pl e')
 
-  pub link_lower : Runs t → length k.delays ≡ k.places → (h' : Holds) (c : ℕ) → MayLower k p s → k' ≡ noted k p (Some s) → Front t (base_of w) u c
-      → Brought t (sofar_of t k') (base_of w) c h h' → Link g t v d e (core_of t w h k) (core_of t w h' k')
+  pub link_lower : Runs t → length k.delays ≡ k.places → (h' : Shelf) (c : ℕ) → MayLower k p s → k' ≡ noted k p (Some s) → Front t (base_of w) u c
+      → Brought t (core_of t w h k') c h' → Link g t v d e (core_of t w h k) (shelved (core_of t w h k') h')
   link_lower runs len h' c lo e' fr br =
-      lower u c br.to (sofar_of t k') (shelf_of h') hop new
+      lower u c br.to (sofar_of t k') h' hop new
       (λ y z. subst (λ (a : ℕ). a < y) is_sum (below_some (delay_at k p) s y lo.1 (ap (delay_at k) is_place ∙ sym (sofar_in t k u st) ∙ z)))
       (lowered_at runs len e') fr br.belongs br.moved

@@ -2,12 +2,13 @@
 use Rattle.std.proofs.Common.{◌≡◌, ℕ, suc, ◌+◌, ◌-◌, ◌/◌, ◌^◌, ◌<◌, ◌≤◌, Bool, true, false, ◌≢◌, length, Some, None, Option, sym, refl, ap, ◌∙◌, subst, add-one, arith, MatchOption}
 use Rattle.tree.specs.Tree.{Tree, width, buckets_in_all}
 use Rattle.walk.specs.State.{Changed}
-use Rattle.walk.specs.Rules.{Lowest, Slot, within, past, Belongs, falls, unknown, nothing, one, there, moved}
+use Rattle.walk.specs.Rules.{Lowest, Slot, within, past, Belongs, falls, unknown, one, moved}
 use Rattle.walk.specs.Able.{Ready}
 use Rattle.walk.proofs.Runs.{changed_set}
 use Rattle.shelf.specs.Holds.{Holds, MayPut, bucket_at, lifted, placed}
 use Rattle.keeper.specs.Keeps.{Keeps, LeastFrom}
-use Rattle.settling.specs.Means.{sofar_of}
+use Rattle.settling.specs.declared.trail.Trail.{Trail}
+use Rattle.settling.specs.Means.{sofar_of, base_of, shelf_of, core_of}
 use Rattle.settling.specs.Asks.{Walkable, Brought}
 use Rattle.settling.proofs.Keepers.{lowest_of}
 
@@ -60,31 +61,20 @@ changed_lifted h i len lt = changed_set h.at i None None (omega arith)
 changed_placed : (h : Holds) (i b : ℕ) → length h.at ≡ h.items → i < h.items → Changed (bucket_at h) i (Some b) (bucket_at (placed h i b))
 changed_placed h i b len lt = changed_set h.at i (Some b) None (omega arith)
 
-module _ (t : Tree) (so_far base : ℕ → Option ℕ) (c : ℕ) (h : Holds) (len : length h.at ≡ h.items) (listed : c < t.nodes) (item : c < h.items) where
-  pub brought_same : (to : Option ℕ) → Belongs t so_far base c to → bucket_at h c ≡ to → Brought t so_far base c h h
-  brought_same to bel e = record { to = to; belongs = bel; moved = there e refl; items = refl; buckets = refl }
-
-  pub brought_lifted : (h' : Holds) → Belongs t so_far base c None → bucket_at h c ≢ None → h' ≡ lifted h c → Brought t so_far base c h h'
-  brought_lifted h' bel ne e =
-      subst (λ (x : Holds). Brought t so_far base c h x) (sym e)
-      (record { to = None; belongs = bel; moved = moved ne (changed_lifted h c len item) (nothing refl refl); items = refl; buckets = refl })
-
+module _ (t : Tree) (w : Trail) (k : Keeps) (c : ℕ) (h : Holds) (len : length h.at ≡ h.items) (listed : c < t.nodes) (item : c < h.items) where
   -- it was lifted, and can be put
   pub may_put : (h₁ : Holds) (b : ℕ) → b < h.buckets → h.puts < 65535 → h₁ ≡ lifted h c → MayPut h₁ c b
   may_put h₁ b low few e = subst (λ (x : Holds). MayPut x c b) (sym e) (item, low, (changed_lifted h c len item).at, few)
 
-  pub brought_moved : (h₁ h' : Holds) (b : ℕ) → b < buckets_in_all t → h.puts < 65535 → Belongs t so_far base c (Some b) → bucket_at h c ≢ Some b
-      → length h₁.at ≡ h₁.items → h₁ ≡ lifted h c → h' ≡ placed h₁ c b → Brought t so_far base c h h'
+  pub brought_moved : (h₁ h' : Holds) (b : ℕ) → b < buckets_in_all t → h.puts < 65535 → Belongs t (sofar_of t k) (base_of w) c (Some b) → bucket_at h c ≢ Some b
+      → length h₁.at ≡ h₁.items → h₁ ≡ lifted h c → h' ≡ placed h₁ c b → Brought t (core_of t w h k) c (shelf_of h')
   brought_moved h₁ h' b low few bel ne len₁ e₁ e =
       let p₁ = subst (λ (x : Holds). Changed (bucket_at h) c None (bucket_at x)) (sym e₁) (changed_lifted h c len item) in
       let i₁ : h₁.items ≡ h.items = ap (λ (x : Holds). x.items) e₁ in
-      let b₁ : h₁.buckets ≡ h.buckets = ap (λ (x : Holds). x.buckets) e₁ in
       let n₁ : h₁.puts ≡ h.puts = ap (λ (x : Holds). x.puts) e₁ in
       let p₂ = changed_placed h₁ c b len₁ (omega arith) in
-      subst (λ (x : Holds). Brought t so_far base c h x) (sym e) (record {
+      subst (λ (x : Holds). Brought t (core_of t w h k) c (shelf_of x)) (sym e) (record {
         to = Some b;
         belongs = bel;
         moved = moved ne (changed_twice p₁ p₂) (one b refl (record { item = listed; bucket = low; few = few }) (add-one h₁.puts ∙ ap suc n₁));
-        items = i₁;
-        buckets = b₁;
       })

@@ -1,17 +1,13 @@
 -- Visiting a station.
-use Rattle.std.proofs.Common.{◌≡◌, ℕ, ◌<◌, ◌≤◌, List, length, get_or, Some, None, vec_items, vec_len, Option, sym, ap, ◌∙◌, subst, arith}
-use Rattle.std.proofs.lemmas.List.{length-set}
+use Rattle.std.proofs.Common.{◌≡◌, ℕ, ◌<◌, List, length, get_or, Some, None, vec_items, Option, sym, ap, ◌∙◌, subst, arith}
 use Rattle.tree.specs.Tree.{Tree}
 use Rattle.walk.specs.State.{Changed, called}
 use Rattle.walk.specs.Rules.{Call}
 use Rattle.walk.proofs.Runs.{changed_set}
 use Rattle.shelf.specs.Holds.{Holds}
 use Rattle.keeper.specs.Keeps.{Keeps, LeastFrom, delay_at}
-use Rattle.map.specs.declared.map.Map.{Map}
-use Rattle.map.specs.Means.{tree_of}
 use Rattle.settling.specs.declared.trail.Trail.{Trail}
 use Rattle.settling.specs.Means.{final_of, sofar_of, shelf_of, core_of, no_progress, SettledAt}
-use Rattle.settling.specs.Asks.{Room}
 use Rattle.settling.proofs.Keepers.{sofar_in}
 
 pub known_at : (t : Tree) (k : Keeps) (u p d : ℕ) → u < t.stations → p ≡ t.place u → LeastFrom k p p d → sofar_of t k u ≡ Some d
@@ -36,16 +32,4 @@ called_is t w w' h k k₁ v d m =
       base = λ x. (get_or (vec_items (sym m.nodes i)) x no_progress).base;
       count = λ x. (get_or (vec_items (sym m.nodes i)) x no_progress).count;
       shelf = shelf_of h;
-    }
-
-pub room_settled : {m : Map} {w w' : Trail} {h : Holds} {k k₁ : Keeps} {v d : ℕ} → Room m w h k → SettledAt w w' v d → k₁.places ≡ k.places
-    → Room m w' h k₁
-room_settled {m} {w} {w'} {v = v} {d = d} r s e =
-    let n : length (vec_items w'.settled) ≡ length (vec_items w.settled) = ap length s.settled ∙ length-set (vec_items w.settled) v (Some d) in
-    record {
-      settled = omega (arith, r.settled, n, w.settled.ok.0, w'.settled.ok.0);
-      nodes = subst (λ (b : _). (tree_of m).nodes ≤ vec_len b) (sym s.nodes) r.nodes;
-      items = r.items;
-      buckets = r.buckets;
-      places = omega (arith, r.places, e);
     }

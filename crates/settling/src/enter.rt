@@ -1,50 +1,37 @@
-ghost use Rattle.std.specs.Prelude.{◌≡◌, ℕ, ◌<◌, ◌≤◌, None, vec_len};
-ghost use Rattle.tree.specs.Tree.{buckets_in_all};
+ghost use Rattle.std.specs.Prelude.{◌≡◌, ◌<◌, None};
 ghost use Rattle.walk.specs.Rules.{Nothing};
-ghost use Rattle.walk.specs.Steps.{coarse};
-ghost use Rattle.map.specs.Means.{tree_of};
-ghost use Rattle.settling.specs.Means.{sofar_of, base_of, count_of};
+ghost use Rattle.settling.specs.Means.{core_at, tree_at, Kept};
 ghost use Rattle.settling.specs.Asks.{Walkable};
 ghost use Rattle.settling.specs.Parts.{Kids};
-ghost use Rattle.settling.specs.Turns.{Entered};
+ghost use Rattle.settling.specs.Turns.{beginning, Entered};
 
-use super::grow::expand;
-use super::trail::Trail;
+use super::walker::Walker;
 use keeper::Keeper;
-use map::map::Map;
 use shelf::Shelf;
 use walk::frame::Frame;
 
-/// The visit of a child of `p` that begins now.
-fn frame_of(map: &Map, trail: &Trail, node: u32, p: u32) -> Frame
-    ensures { result ≡ record { node = node; began = coarse (tree_of map.now) node p (count_of trail.now node) } }
-{
-    let by = map.coarser(node, p);
-    let began = trail.count_of(node) >> by;
-    Frame { node, began }
-}
-
-/// Begins a visit of a child of `p`, which was taken: it is expanded if it was not.
-pub(crate) fn enter<S: Shelf, K: Keeper>(
-    map: &Map,
-    trail: &mut Trail,
-    shelf: &mut S,
-    keeper: &K,
-    node: u32,
-    p: u32,
-) -> Frame
-    requires listed { node < (tree_of map.now).nodes }
-    requires tree { Walkable (tree_of map.now) }
-    requires nodes { (tree_of map.now).nodes ≤ vec_len trail.old.nodes }
-    requires items { (tree_of map.now).nodes ≤ (S.Shelf.meaning shelf.old).items }
-    requires buckets { buckets_in_all (tree_of map.now) ≤ (S.Shelf.meaning shelf.old).buckets }
-    requires kids { base_of trail.old node ≡ None → Kids (tree_of map.now) node (S.Shelf.meaning shelf.old) }
-    requires known { Nothing (tree_of map.now) (sofar_of (tree_of map.now) (K.Keeper.meaning keeper.now)) node → ⊥ }
-    ensures { Entered (tree_of map.now) node p trail.old trail.new (S.Shelf.meaning shelf.old) (S.Shelf.meaning shelf.new)
-        (K.Keeper.meaning keeper.now) result }
-{
-    if trail.base_of(node).is_none() {
-        expand(map, trail, shelf, keeper, node);
+impl<'w, S: Shelf, K: Keeper> Walker<'w, S, K> {
+    /// The visit of a child of `p` that begins now.
+    fn frame_of(&self, node: u32, p: u32) -> Frame
+        ensures { result ≡ beginning (tree_at self.now) node p (core_at self.now) }
+    {
+        let by = self.map.coarser(node, p);
+        let began = self.trail.count_of(node) >> by;
+        Frame { node, began }
     }
-    frame_of(map, trail, node, p)
+
+    /// Begins a visit of a child of `p`, which was taken: it is expanded if it was not.
+    pub(crate) fn enter(&mut self, node: u32, p: u32) -> Frame
+        requires listed { node < (tree_at self.old).nodes }
+        requires tree { Walkable (tree_at self.old) }
+        requires kids { (core_at self.old).base node ≡ None → Kids (tree_at self.old) node (core_at self.old).shelf }
+        requires known { Nothing (tree_at self.old) (core_at self.old).so_far node → ⊥ }
+        ensures entered { Entered (tree_at self.old) node p (core_at self.old) (core_at self.new) result }
+        ensures kept { Kept self.old self.new }
+    {
+        if self.trail.base_of(node).is_none() {
+            self.expand(node);
+        }
+        self.frame_of(node, p)
+    }
 }

@@ -1,16 +1,13 @@
-ghost use Rattle.std.specs.Prelude.{◌≡◌, ℕ, ◌^◌, ◌<◌, ◌≤◌, true, false, length, MatchOption};
+ghost use Rattle.std.specs.Prelude.{◌≡◌, ℕ, ◌^◌, ◌<◌, length, MatchOption};
 ghost use Rattle.network.specs.Network.{Hop, delay};
+ghost use Rattle.network.specs.Schemes.{network_of};
 ghost use Rattle.walk.specs.Rules.{Link, Links};
 ghost use Rattle.walk.specs.Able.{Apt, Safe};
-ghost use Rattle.network.specs.Schemes.{network_of};
-ghost use Rattle.map.specs.Means.{tree_of};
-ghost use Rattle.settling.specs.Means.{core_of};
-ghost use Rattle.settling.specs.Asks.{Charted, Room, Alike, Only};
+ghost use Rattle.settling.specs.Means.{core_at, net_at, tree_at, Kept};
+ghost use Rattle.settling.specs.Asks.{Charted, Only};
 
-use super::place::{bring, front};
-use super::trail::Trail;
+use super::walker::Walker;
 use keeper::Keeper;
-use map::map::Map;
 use network::entry::Standing;
 use network::scheme::Scheme;
 use shelf::Shelf;
@@ -41,63 +38,44 @@ fn delay_of(scheme: &Scheme, k: usize) -> u32
     scheme.entry(k).map_or(0, |entry| entry.row.ns)
 }
 
-/// Follows the link `k` of the visited station `v`, whose delay is `d`.
-pub(crate) fn lower_along<S: Shelf, K: Keeper>(
-    scheme: &Scheme,
-    map: &Map,
-    trail: &Trail,
-    shelf: &mut S,
-    keeper: &mut K,
-    v: u32,
-    d: u64,
-    k: usize,
-)
-    requires charted { Charted scheme.now map.now }
-    requires room { Room map.now trail.now (S.Shelf.meaning shelf.old) (K.Keeper.meaning keeper.old) }
-    requires short { d < 2 ^ 63 }
-    requires apt { Apt (network_of scheme.now) (tree_of map.now)
-        (core_of (tree_of map.now) trail.now (S.Shelf.meaning shelf.old) (K.Keeper.meaning keeper.old)) v d k }
-    ensures link { Link (network_of scheme.now) (tree_of map.now) v d k
-        (core_of (tree_of map.now) trail.now (S.Shelf.meaning shelf.old) (K.Keeper.meaning keeper.old))
-        (core_of (tree_of map.now) trail.now (S.Shelf.meaning shelf.new) (K.Keeper.meaning keeper.new)) }
-    ensures alike { Alike (S.Shelf.meaning shelf.old) (S.Shelf.meaning shelf.new) (K.Keeper.meaning keeper.old) (K.Keeper.meaning keeper.new) }
-{
-    let Some(u) = other_end(scheme, v, k) else {
-        return;
-    };
-    if trail.final_of(u).is_some() {
-        return;
+impl<'w, S: Shelf, K: Keeper> Walker<'w, S, K> {
+    /// Follows the link `k` of the visited station `v`, whose delay is `d`.
+    pub(crate) fn lower_along(&mut self, v: u32, d: u64, k: usize)
+        requires charted { Charted self.old.scheme.now self.old.map.now }
+        requires short { d < 2 ^ 63 }
+        requires apt { Apt (net_at self.old) (tree_at self.old) (core_at self.old) v d k }
+        ensures link { Link (net_at self.old) (tree_at self.old) v d k
+            (core_at self.old) (core_at self.new) }
+        ensures trail { self.new.trail ≡ self.old.trail }
+        ensures kept { Kept self.old self.new }
+    {
+        let Some(u) = other_end(self.scheme, v, k) else {
+            return;
+        };
+        if self.trail.final_of(u).is_some() {
+            return;
+        }
+        let sum = d + u64::from(delay_of(self.scheme, k));
+        let place = self.map.place_of(u);
+        if self.keeper.lower(place, sum) {
+            let c = self.trail.front(self.map, u);
+            self.bring(c);
+        }
     }
-    let sum = d + u64::from(delay_of(scheme, k));
-    let place = map.place_of(u);
-    if keeper.lower(place, sum) {
-        let c = front(map, trail, u);
-        bring(map, trail, shelf, keeper, c);
-    }
-}
 
-/// Follows the links of the visited station `v`, whose delay is `d`, in the order of their numbers.
-pub(crate) fn follow_links<S: Shelf, K: Keeper>(
-    scheme: &Scheme,
-    map: &Map,
-    trail: &Trail,
-    shelf: &mut S,
-    keeper: &mut K,
-    v: u32,
-    d: u64,
-)
-    requires charted { Charted scheme.now map.now }
-    requires room { Room map.now trail.now (S.Shelf.meaning shelf.old) (K.Keeper.meaning keeper.old) }
-    requires short { d < 2 ^ 63 }
-    requires safe { Safe (network_of scheme.now) (tree_of map.now)
-        (core_of (tree_of map.now) trail.now (S.Shelf.meaning shelf.old) (K.Keeper.meaning keeper.old)) v d }
-    ensures links { Links (network_of scheme.now) (tree_of map.now) v d
-        (core_of (tree_of map.now) trail.now (S.Shelf.meaning shelf.old) (K.Keeper.meaning keeper.old))
-        (length (network_of scheme.now).rows)
-        (core_of (tree_of map.now) trail.now (S.Shelf.meaning shelf.new) (K.Keeper.meaning keeper.new)) }
-    ensures alike { Alike (S.Shelf.meaning shelf.old) (S.Shelf.meaning shelf.new) (K.Keeper.meaning keeper.old) (K.Keeper.meaning keeper.new) }
-{
-    for k in 0..scheme.links.len() {
-        lower_along(scheme, map, trail, shelf, keeper, v, d, k);
+    /// Follows the links of the visited station `v`, whose delay is `d`, in the order of their numbers.
+    pub(crate) fn follow_links(&mut self, v: u32, d: u64)
+        requires charted { Charted self.old.scheme.now self.old.map.now }
+        requires short { d < 2 ^ 63 }
+        requires safe { Safe (net_at self.old) (tree_at self.old) (core_at self.old) v d }
+        ensures links { Links (net_at self.old) (tree_at self.old) v d
+            (core_at self.old) (length (net_at self.old).rows) (core_at self.new) }
+        ensures trail { self.new.trail ≡ self.old.trail }
+        ensures kept { Kept self.old self.new }
+    {
+        // Kept: a link is named by its number in the rules of the walk, so the loop goes over numbers.
+        for k in 0..self.scheme.links.len() {
+            self.lower_along(v, d, k);
+        }
     }
 }

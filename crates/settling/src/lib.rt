@@ -17,3 +17,4 @@ mod trail;
 mod trail_asks;
 mod turn;
 mod visit;
+mod walker;
