@@ -34,6 +34,7 @@ impl Tree {
         let mut k = self.places as usize + place as usize;
         let nodes = self.nodes.as_mut_slice();
         nodes[k] = d;
+        // Kept: a `while`, since a node's number is halved on the way up and none is counted.
         while k >= 2 {
             k /= 2;
             nodes[k] = lesser(nodes[2 * k], nodes[2 * k + 1]);
@@ -74,6 +75,7 @@ impl Keeper for Tree {
         let mut low = n + first as usize;
         let mut high = n + n.min(last as usize + 1);
         let mut best = None;
+        // Kept: a `while`, since both ends of a row are halved on the way up and none is counted.
         while low < high {
             best = lesser(best, lesser(nodes[low], nodes[high - 1]));
             low = (low + 1) / 2;

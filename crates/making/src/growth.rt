@@ -51,6 +51,7 @@ impl Growth {
         ensures numbered { Numbered (network_of scheme.now) 32 0 self.new.nodes }
         ensures first { StationsFirst scheme.now.stations self.old.nodes → StationsFirst scheme.now.stations self.new.nodes }
     {
+        // Kept: a loop over levels, which are numbers.
         for done in 0..32 {
             self.grow_level(scheme, done);
         }

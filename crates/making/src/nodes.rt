@@ -78,6 +78,7 @@ impl Nodes {
         ensures numbered { Numbered (network_of scheme.now) (suc done) 0 self.new }
         ensures first { StationsFirst scheme.now.stations self.old → StationsFirst scheme.now.stations self.new }
     {
+        // Kept: a loop over stations, which are numbers; whether a group forms is asked of the number.
         for s in 0..scheme.stations {
             if groups.forms(s) {
                 self.list.push_reserved(Node {

@@ -3,8 +3,8 @@ use Rattle.std.proofs.Common.{◌≡◌, ℕ, ◌<◌, true, false, length, Some
 use Rattle.std.specs.Option.{is_some}
 use Rattle.tree.specs.Tree.{Tree, Runs}
 use Rattle.walk.specs.State.{Changed}
-use Rattle.walk.specs.Rules.{Lowest, Nothing}
-use Rattle.walk.proofs.Runs.{Held, changed_set, run_lowest, run_nothing, run_changed}
+use Rattle.walk.specs.Rules.{Lowest}
+use Rattle.walk.proofs.Runs.{Held, changed_set, run_lowest, run_changed}
 use Rattle.keeper.specs.Keeps.{Keeps, delay_at, noted, NoDelay, LeastFrom}
 use Rattle.settling.specs.Means.{sofar_of}
 
@@ -24,9 +24,6 @@ pub lowest_of : (t : Tree) (k : Keeps) (c low high d : ℕ) → Runs t → c < t
 lowest_of t k c low high d runs listed is_low is_high l =
     run_lowest runs (held t k) listed (omega (arith, l.above)) (omega (arith, l.below)) l.there
     (λ q y a b e. l.least q y (omega arith) (omega arith) e)
-
-pub nothing_of : (t : Tree) (k : Keeps) (c low high : ℕ) → Runs t → low ≡ t.low c → high ≡ t.high c → NoDelay k low high → Nothing t (sofar_of t k) c
-nothing_of t k c low high runs is_low is_high b = run_nothing runs (held t k) (λ q a z. b q (omega arith) (omega arith))
 
 -- a keeper has changed at the place of u
 pub changed_noted : (t : Tree) (k k' : Keeps) (u p : ℕ) (x : Option ℕ) → Runs t → length k.delays ≡ k.places → u < t.stations → p ≡ t.place u

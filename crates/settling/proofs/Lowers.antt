@@ -35,23 +35,31 @@ known_some (Some y) d h = elim (cases_lt d y) [ inl l ↦ absurd (h l) | inr l �
 pub link_skip : (g : Network) (t : Tree) (v d k u y : ℕ) (s : Core) → ((z : ℕ) → Hop g k v z → z ≡ u) → s.final u ≡ Some y → Link g t v d k s s
 link_skip g t v d k u y s only is = skip (λ z j n. some_none (ap s.final (only z j) ∙ is) n)
 
--- the link e leads from v to the unvisited u, and the keeper was asked to lower the place p of u to s
-module _ (g : Network) (t : Tree) (w : Trail) (h : Holds) (k k' : Keeps) (v d e u p s : ℕ) (hop : Hop g e v u) (st : u < t.stations)
-    (is_place : p ≡ t.place u) (pl : p < k.places) (new : final_of w u ≡ None) (is_sum : s ≡ d + delay g e) where
+-- the link e leads from v to the unvisited u, whose place is p, and s is the delay of u by it
+pub record Asked (g : Network) (t : Tree) (w : Trail) (k : Keeps) (v d e u p s : ℕ) : Type 0 where
+  pub hop : Hop g e v u
+  pub station : u < t.stations
+  pub is_place : p ≡ t.place u
+  pub place : p < k.places
+  pub new : final_of w u ≡ None
+  pub is_sum : s ≡ d + delay g e
+
+-- the keeper was asked to lower p to s
+module _ {g : Network} {t : Tree} {w : Trail} {k : Keeps} {v d e u p s : ℕ} (a : Asked g t w k v d e u p s) (h : Holds) (k' : Keeps) where
   pub link_keep : (MayLower k p s → ⊥) → k' ≡ k → Link g t v d e (core_of t w h k) (core_of t w h k')
   link_keep hold e' =
-      let y = known_some (delay_at k p) s (λ c. hold (pl, c)) in
+      let y = known_some (delay_at k p) s (λ c. hold (a.place, c)) in
       subst (λ (x : Keeps). Link g t v d e (core_of t w h k) (core_of t w h x)) (sym e')
-      (keep u y.y hop new (sofar_in t k u st ∙ ap (delay_at k) (sym is_place) ∙ y.is) (subst (λ (z : ℕ). y.y ≤ z) is_sum y.low))
+      (keep u y.y a.hop a.new (sofar_in t k u a.station ∙ ap (delay_at k) (sym a.is_place) ∙ y.is) (subst (λ (z : ℕ). y.y ≤ z) a.is_sum y.low))
 
   pub lowered_at : Runs t → length k.delays ≡ k.places → k' ≡ noted k p (Some s)
       → Changed (sofar_of t k) u (Some (d + delay g e)) (sofar_of t k')
   lowered_at runs len e' =
-      subst (λ (z : ℕ). Changed (sofar_of t k) u (Some z) (sofar_of t k')) is_sum (changed_noted t k k' u p (Some s) runs len st is_place pl e')
+      subst (λ (z : ℕ). Changed (sofar_of t k) u (Some z) (sofar_of t k')) a.is_sum (changed_noted t k k' u p (Some s) runs len a.station a.is_place a.place e')
 
   pub link_lower : Runs t → length k.delays ≡ k.places → (h' : Shelf) (c : ℕ) → MayLower k p s → k' ≡ noted k p (Some s) → Front t (base_of w) u c
       → Brought t (core_of t w h k') c h' → Link g t v d e (core_of t w h k) (shelved (core_of t w h k') h')
   link_lower runs len h' c lo e' fr br =
-      lower u c br.to (sofar_of t k') h' hop new
-      (λ y z. subst (λ (a : ℕ). a < y) is_sum (below_some (delay_at k p) s y lo.1 (ap (delay_at k) is_place ∙ sym (sofar_in t k u st) ∙ z)))
+      lower u c br.to (sofar_of t k') h' a.hop a.new
+      (λ y z. subst (λ (x : ℕ). x < y) a.is_sum (below_some (delay_at k p) s y lo.1 (ap (delay_at k) a.is_place ∙ sym (sofar_in t k u a.station) ∙ z)))
       (lowered_at runs len e') fr br.belongs br.moved

@@ -1,12 +1,11 @@
 -- What changes where the progress at a node is written.
-use Rattle.std.proofs.Common.{◌≡◌, ℕ, ◌+◌, ◌<◌, List, length, get_or, set, Some, vec_items, sym, ap, ◌∙◌, subst, inl, inr, arith, vec_len, Option}
+use Rattle.std.proofs.Common.{◌≡◌, ℕ, ◌+◌, ◌<◌, List, length, get_or, set, Some, vec_items, sym, ap, ◌∙◌, subst, inl, inr}
 use Rattle.std.proofs.lemmas.Bool.{cases_eq}
 use Rattle.walk.specs.State.{Changed}
 use Rattle.walk.proofs.Runs.{changed_set}
 use Rattle.settling.specs.declared.progress.Progress.{Progress}
 use Rattle.settling.specs.declared.trail.Trail.{Trail}
-use Rattle.std.proofs.lemmas.List.{length-set}
-use Rattle.settling.specs.Means.{base_of, count_of, progress, no_progress, SettledAt, Risen, Opened}
+use Rattle.settling.specs.Means.{base_of, count_of, progress, no_progress, Risen, Opened}
 
 -- a part of what is written changes with it
 changed_part : {A B : Type 0} {f f' : ℕ → A} {v : ℕ} {x : A} (part : A → B) → Changed f v x f' → Changed (λ u. part (f u)) v (part x) (λ u. part (f' u))
@@ -30,23 +29,3 @@ module _ (w w' : Trail) (x : ℕ) (lt : x < length (vec_items w.nodes)) where
   risen_base r y =
       let c = changed_part (λ (p : Progress). p.base) (written _ r.nodes) in
       elim (cases_eq y x) [ inl e ↦ ap (base_of w') e ∙ c.at ∙ ap (base_of w) (sym e) | inr n ↦ c.off y n ]
-
--- each list of a trail is as long as it was
-abbrev pub SameSize : Trail → Trail → Type 0
-SameSize w w' = (vec_len w'.settled ≡ vec_len w.settled) × (vec_len w'.nodes ≡ vec_len w.nodes)
-
-nodes_size : (w w' : Trail) (x : ℕ) (p : Progress) → vec_items w'.nodes ≡ set (vec_items w.nodes) x p → vec_len w'.nodes ≡ vec_len w.nodes
-nodes_size w w' x p e =
-    omega (arith, ap (λ (l : List Progress). length l) e, length-set (vec_items w.nodes) x p, w.nodes.ok.0, w'.nodes.ok.0)
-
-pub risen_size : (w w' : Trail) (x : ℕ) → Risen w w' x → SameSize w w'
-risen_size w w' x r = (ap vec_len r.settled, nodes_size w w' x _ r.nodes)
-
-pub opened_size : (w w' : Trail) (x b : ℕ) → Opened w w' x b → SameSize w w'
-opened_size w w' x b o = (ap vec_len o.settled, nodes_size w w' x _ o.nodes)
-
-pub settled_size : (w w' : Trail) (v d : ℕ) → SettledAt w w' v d → SameSize w w'
-settled_size w w' v d m = (
-  omega (arith, ap (λ (l : List (Option ℕ)). length l) m.settled, length-set (vec_items w.settled) v (Some d), w.settled.ok.0, w'.settled.ok.0),
-  ap vec_len m.nodes,
-)

@@ -12,6 +12,5 @@ walkable {m = m} ch =
       later = ch.fits.later;
       listed = λ x p h. (ch.fits.inner x p h).below;
       within = λ x p h. let t = tree_of m in let i = ch.fits.inner x p h in omega (arith, ch.fits.numbered p i, total_longer t.buckets (suc p) t.nodes i.below);
-      sized = ch.sized;
       runs = ch.runs;
     }

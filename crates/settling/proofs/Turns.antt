@@ -1,23 +1,13 @@
 -- The steps, from what their parts promise.
-use Rattle.std.proofs.Common.{◌≡◌, ℕ, ◌+◌, ◌<◌, ◌≤◌, Bool, true, false, ◌∷◌, List, None, MatchBool, sym, refl, ap, ◌∙◌, subst, inl, inr, add-one, arith}
-use Rattle.std.proofs.lemmas.Bool.{cases_eq}
+use Rattle.std.proofs.Common.{◌≡◌, ℕ, ◌+◌, ◌<◌, ◌≤◌, ◌∷◌, List, sym, refl, subst, add-one}
 use Rattle.network.specs.Network.{Network}
-use Rattle.tree.specs.Tree.{Tree, Fits}
+use Rattle.tree.specs.Tree.{Tree}
 use Rattle.walk.specs.declared.frame.Frame.{Frame}
 use Rattle.walk.specs.State.{Shelf, Core, State, Changed, counted, shelved}
-use Rattle.walk.specs.Steps.{Going, Ended, Taken, Step, visit, expand, again, rise}
-use Rattle.walk.specs.Able.{Able, DueNow}
+use Rattle.walk.specs.Steps.{Going, Taken, Step, visit, expand, again, rise}
 use Rattle.settling.specs.Asks.{Visited}
-use Rattle.settling.specs.Parts.{Kids, FoundEmpty}
+use Rattle.settling.specs.Parts.{FoundEmpty}
 use Rattle.settling.specs.Turns.{Entered, again as entered_again, first as entered_first}
-
-pub is_going : (t : Tree) (s : Core) (f : Frame) (r : Bool) → r ≡ true → MatchBool r (Going t s f) (Ended t s f) → Going t s f
-is_going t s f true e h = h
-is_going t s f false e h = let z : ◌≡◌ {A = ℕ} 0 1 = cc in absurd (omega arith)
-
-pub is_ended : (t : Tree) (s : Core) (f : Frame) (r : Bool) → r ≡ false → MatchBool r (Going t s f) (Ended t s f) → Ended t s f
-is_ended t s f true e h = let z : ◌≡◌ {A = ℕ} 0 1 = cc in absurd (omega arith)
-is_ended t s f false e h = h
 
 module _ (g : Network) (t : Tree) (s : Core) (f : Frame) (fs : List Frame) (going : Going t s f) where
   abbrev before : State
@@ -66,18 +56,3 @@ module _ (g : Network) (t : Tree) (s : Core) (f : Frame) (fs : List Frame) (goin
       → Step g t before (record { core = s'; frames = e ∷ f ∷ fs })
   step_enter c s₁ s' h₁ e taken same inner entered =
       entered_after c s' h₁ e taken inner (subst (λ (z : Core). Entered t c f.node z s' e) same entered)
-
--- what was taken is due now
-pub due : {t : Tree} {s : Core} {x c : ℕ} {h₁ : Shelf} → Taken t s x c h₁ → DueNow t s x c
-due taken = record { k = taken.k; now = taken.now; item = taken.item }
-
--- the children of an unexpanded c can still be put
-pub kids_of : (g : Network) (t : Tree) (s : Core) (h₁ : Shelf) (f : Frame) (c : ℕ) → Fits g t → Able t s f → Taken t s f.node c h₁ → s.base c ≡ None
-    → Kids t c h₁
-kids_of g t s h₁ f c fits able taken shut =
-    record {
-      child = fits.child c;
-      once = fits.once c;
-      free = λ x up. elim (cases_eq x c) [ inl e ↦ ap h₁.bucket e ∙ taken.off.at | inr n ↦ taken.off.off x n ∙ able.kids_free c x shut up ];
-      few = omega (arith, taken.puts, able.kids_few c shut);
-    }

@@ -22,7 +22,6 @@ pub record Walkable (t : Tree) : Type 0 where
   pub later : (x p : ℕ) → t.parent x ≡ Some p → x < p
   pub listed : (x p : ℕ) → t.parent x ≡ Some p → p < t.nodes
   pub within : (x p : ℕ) → t.parent x ≡ Some p → t.first p + t.buckets p ≤ buckets_in_all t
-  pub sized : Sized t
   pub runs : Runs t
 
 -- c was brought to where it belongs

@@ -36,7 +36,7 @@ pub(crate) fn root_of(map: &Map, station: u32) -> u32
     x
 }
 
-impl<'w, S: Shelf, K: Keeper> Walker<'w, S, K> {
+impl<S: Shelf, K: Keeper> Walker<'_, S, K> {
     /// Makes ready for a walk from the source: trail, shelf and keeper are cleared, and the keeper has the source at 0.
     pub(crate) fn prepare(&mut self, source: u32)
         requires tree { Walkable (tree_at self.old) }

@@ -10,7 +10,7 @@ use keeper::Keeper;
 use shelf::Shelf;
 use walk::frame::Frame;
 
-impl<'w, S: Shelf, K: Keeper> Walker<'w, S, K> {
+impl<S: Shelf, K: Keeper> Walker<'_, S, K> {
     /// The visit of a child of `p` that begins now.
     fn frame_of(&self, node: u32, p: u32) -> Frame
         ensures { result ≡ beginning (tree_at self.now) node p (core_at self.now) }
@@ -27,6 +27,7 @@ impl<'w, S: Shelf, K: Keeper> Walker<'w, S, K> {
         requires kids { (core_at self.old).base node ≡ None → Kids (tree_at self.old) node (core_at self.old).shelf }
         requires known { Nothing (tree_at self.old) (core_at self.old).so_far node → ⊥ }
         ensures entered { Entered (tree_at self.old) node p (core_at self.old) (core_at self.new) result }
+        ensures keeper { self.new.keeper ≡ self.old.keeper }
         ensures kept { Kept self.old self.new }
     {
         if self.trail.base_of(node).is_none() {

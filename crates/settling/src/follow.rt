@@ -38,7 +38,7 @@ fn delay_of(scheme: &Scheme, k: usize) -> u32
     scheme.entry(k).map_or(0, |entry| entry.row.ns)
 }
 
-impl<'w, S: Shelf, K: Keeper> Walker<'w, S, K> {
+impl<S: Shelf, K: Keeper> Walker<'_, S, K> {
     /// Follows the link `k` of the visited station `v`, whose delay is `d`.
     pub(crate) fn lower_along(&mut self, v: u32, d: u64, k: usize)
         requires charted { Charted self.old.scheme.now self.old.map.now }

@@ -9,7 +9,7 @@ use super::walker::Walker;
 use keeper::Keeper;
 use shelf::Shelf;
 
-impl<'w, S: Shelf, K: Keeper> Walker<'w, S, K> {
+impl<S: Shelf, K: Keeper> Walker<'_, S, K> {
     /// Puts the children of a node where they belong, in their order.
     pub(crate) fn put_children(&mut self, node: u32)
         requires tree { Walkable (tree_at self.old) }
@@ -22,6 +22,7 @@ impl<'w, S: Shelf, K: Keeper> Walker<'w, S, K> {
         ensures keeper { self.new.keeper ≡ self.old.keeper }
         ensures kept { Kept self.old self.new }
     {
+        // Kept: a child is asked for by its number, since a map's run of children may reach past their list, where a child reads as 0.
         for i in 0..self.map.many_of(node) {
             let c = self.map.child_of(node, i);
             self.bring(c);
@@ -35,6 +36,7 @@ impl<'w, S: Shelf, K: Keeper> Walker<'w, S, K> {
         requires kids { Kids (tree_at self.old) node (core_at self.old).shelf }
         requires known { Nothing (tree_at self.old) (core_at self.old).so_far node → ⊥ }
         ensures grown { Grown (tree_at self.old) node (core_at self.old) (core_at self.new) }
+        ensures keeper { self.new.keeper ≡ self.old.keeper }
         ensures kept { Kept self.old self.new }
     {
         let low = self.map.low_of(node);

@@ -12,7 +12,7 @@ use keeper::Keeper;
 use shelf::Shelf;
 use walk::frame::Frame;
 
-impl<'w, S: Shelf, K: Keeper> Walker<'w, S, K> {
+impl<S: Shelf, K: Keeper> Walker<'_, S, K> {
     /// Whether the visit `f` goes on: its node has an unvisited station, and its counter is still in the bucket of the parent in which it was.
     pub(crate) fn goes_on(&self, f: Frame) -> bool
         requires listed { f.node < (tree_at self.now).nodes }
@@ -43,6 +43,8 @@ impl<'w, S: Shelf, K: Keeper> Walker<'w, S, K> {
         requires ended { Ended (tree_at self.old) (core_at self.old) f }
         ensures step { (g : Network) (fs : List FrameOf) → Step g (tree_at self.old)
             (record { core = core_at self.old; frames = f ∷ fs }) (record { core = core_at self.new; frames = fs }) }
+        ensures trail { self.new.trail ≡ self.old.trail }
+        ensures keeper { self.new.keeper ≡ self.old.keeper }
         ensures kept { Kept self.old self.new }
     {
         if self.map.parent_of(f.node).is_some() {

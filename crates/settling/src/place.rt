@@ -11,7 +11,7 @@ use keeper::Keeper;
 use map::map::Map;
 use shelf::Shelf;
 
-impl<'w, S: Shelf, K: Keeper> Walker<'w, S, K> {
+impl<S: Shelf, K: Keeper> Walker<'_, S, K> {
     /// Where the child `node` belongs: its least, counted in the width of its parent's buckets, tells the bucket; past the parent's last, or
     /// without a least, it belongs nowhere.
     pub(crate) fn belongs(&self, node: u32) -> Option<u32>

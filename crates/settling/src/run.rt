@@ -32,7 +32,7 @@ fn turn_to<'a>(frames: &mut Stack<'a, Frame>, turn: Turn)
     }
 }
 
-impl<'w, S: Shelf, K: Keeper> Walker<'w, S, K> {
+impl<S: Shelf, K: Keeper> Walker<'_, S, K> {
     /// Takes steps until no visit is under way.
     pub(crate) fn run_on<'a>(&mut self, frames: &mut Stack<'a, Frame>, source: u32)
         requires charted { Charted self.old.scheme.now self.old.map.now }

@@ -13,7 +13,7 @@ use keeper::Keeper;
 use shelf::Shelf;
 use walk::frame::Frame;
 
-impl<'w, S: Shelf, K: Keeper> Walker<'w, S, K> {
+impl<S: Shelf, K: Keeper> Walker<'_, S, K> {
     /// Takes one step of the walk, whose innermost visit is `f`, and tells what becomes of the visits under way.
     pub(crate) fn step(&mut self, f: Frame) -> Turn
         requires charted { Charted self.old.scheme.now self.old.map.now }

@@ -6,7 +6,7 @@ use super::walker::Walker;
 use keeper::Keeper;
 use shelf::Shelf;
 
-impl<'w, S: Shelf, K: Keeper> Walker<'w, S, K> {
+impl<S: Shelf, K: Keeper> Walker<'_, S, K> {
     /// Visits the station `v`: its least becomes final, its place is retired, and its links are followed.
     pub(crate) fn visit_station(&mut self, v: u32)
         requires charted { Charted self.old.scheme.now self.old.map.now }

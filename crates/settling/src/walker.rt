@@ -11,8 +11,7 @@ use shelf::Shelf;
 /// What walks have in hand: the scheme and its map, and their trail, shelf and keeper, which have room for the map.
 #[derive(Drop)]
 pub struct Walker<'a, S: Shelf, K: Keeper> {
-    // Kept: that the map is a tree of the scheme's network is asked by the methods. A ghost field takes a fact that has one proof, and two
-    // stations can be near each other by several routes.
+    // Kept: that the map is a tree of the scheme's network is a `requires`: as a ghost field it was refused, since it has more than one proof.
     pub scheme: &'a Scheme,
     pub map: &'a Map,
     pub trail: Trail,

@@ -3,7 +3,7 @@ use Rattle.network.specs.Schemes.{network_of}
 use Rattle.stack.specs.Stacked.{downward}
 use Rattle.walk.specs.declared.frame.Frame.{Frame}
 use Rattle.walk.specs.Steps.{Walk, Open, Going, Taken, Step}
-use Rattle.walk.specs.Laws.{Given}
+use Rattle.walk.specs.Laws.{Given, most_moves}
 use Rattle.walk.proofs.Handover.{able, depth, small_enough}
 use Rattle.walk.proofs.Ledger.{ends}
 use Rattle.map.specs.Means.{tree_of}
@@ -16,15 +16,22 @@ use Rattle.settling.proofs.Walkers.{kept_then, kept_on, kept_back}
 use Rattle.settling.specs.Asks.{Charted, Callable}
 use Rattle.walk.specs.Able.{Able}
 use Rattle.walk.specs.State.{Shelf, shelved}
+use Rattle.settling.proofs.walker.Walker.run_on.Given as given
 use Rattle.settling.proofs.walker.Walker.run_on.Goals as goal
+use Rattle.settling.proofs.walker.Walker.run_on.Goals.{Start}
+
+fitting : (g : given.Over) (c : Start g) → Given (net_at c.args.self.now) (tree_at c.args.self.now) c.args.source
+fitting g c = record { fits = c.requires.charted.fits; sized = c.requires.charted.sized; station = c.requires.source }
+
+limit : (g : given.Over) (c : Start g) → most_moves (net_at c.args.self.now) (tree_at c.args.self.now) < 65535
+limit g c = small_enough (net_at c.args.self.now) (tree_at c.args.self.now) c.args.self.now.map.now.few (few_links c.args.self.now.scheme.now)
 
 pub step-turn-requires : goal.step-turn-requires
 step-turn-requires g c =
     let m = c.args.self.now.map.now in
     let t = tree_of m in
     let net = net_at c.args.self.now in
-    let given : Given net t c.args.source = record { fits = c.requires.charted.fits; sized = c.requires.charted.sized; station = c.requires.source } in
-    let limit = small_enough net t m.few (few_links c.args.self.now.scheme.now) in
+    let start = (goal.at.step-turn-requires g c).Start in
     let s = core_at c.loop-step.self in
     let f = c.in-Some.f in
     let fs = downward c.loop-step.frames.room.now (c.loop-step.frames.len - 1) in
@@ -34,13 +41,13 @@ step-turn-requires g c =
     let kept = c.loop-step.invariant.2 in
     record {
       charted = kept_on kept Charted c.requires.charted;
-      able = kept_on kept (λ z m. Able (tree_of m) s f) (able given limit walk refl);
+      able = kept_on kept (λ z m. Able (tree_of m) s f) (able (fitting g start) (limit g start) walk refl);
       short = kept_on kept (λ z m. Open (tree_of m) s.final f.node → s.count f.node + 1 < 2 ^ 64)
-          (short net t c.args.source c.loop-step._step s f fs given limit walk (λ x i. m.spreads x));
+          (short net t c.args.source c.loop-step._step s f fs (fitting g start) (limit g start) walk (λ x i. m.spreads x));
       callable = kept_on kept
           (λ z m. (v : ℕ) (h : Shelf) → Going (tree_of m) s f → Taken (tree_of m) s f.node v h → v < (tree_of m).stations
           → Callable (network_of z) (tree_of m) (shelved s h) v)
-          (callable net t c.args.source c.loop-step._step s f fs given limit walk (λ x i. m.spreads x));
+          (callable net t c.args.source c.loop-step._step s f fs (fitting g start) (limit g start) walk (λ x i. m.spreads x));
     }
 
 pub turn_to-requires : goal.turn_to-requires
@@ -48,9 +55,8 @@ turn_to-requires g c =
     let m = c.args.self.now.map.now in
     let t = tree_of m in
     let net = net_at c.args.self.now in
-    let given : Given net t c.args.source = record { fits = c.requires.charted.fits; sized = c.requires.charted.sized; station = c.requires.source } in
-    let limit = small_enough net t m.few (few_links c.args.self.now.scheme.now) in
-    let deep = depth given limit c.loop-step.invariant.0 32 (λ x. m.levels x) in
+    let start = (goal.at.turn_to-requires g c).Start in
+    let deep = depth (fitting g start) (limit g start) c.loop-step.invariant.0 32 (λ x. m.levels x) in
     omega (arith, deep, downward_length c.loop-step.frames.room.now c.loop-step.frames.len c.loop-step.frames.within, c.requires.space, c.loop-step.invariant.1)
 
 pub loop-step-preserved : goal.loop-step-preserved
@@ -77,6 +83,5 @@ returns g c =
     let m = c.args.self.now.map.now in
     let t = tree_of m in
     let net = net_at c.args.self.now in
-    let given : Given net t c.args.source = record { fits = c.requires.charted.fits; sized = c.requires.charted.sized; station = c.requires.source } in
-    let limit = small_enough net t m.few (few_links c.args.self.now.scheme.now) in
-    absurd (omega (arith, ends net t c.args.source c.loop-step._step _ given c.loop-step.invariant.0, limit, m.few))
+    let start = (goal.at.returns g c).Start in
+    absurd (omega (arith, ends net t c.args.source c.loop-step._step _ (fitting g start) c.loop-step.invariant.0, limit g start, m.few))
