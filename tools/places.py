@@ -110,8 +110,18 @@ def counters():
 
 
 def by_hand():
-    """Comparisons, conversions and prints by hand: functions that convert or compare, and locals made to be printed."""
-    return matching(r"fn (same|kind_of|state_of|spelling|rows_of|link_memory)\b|fn (number|row|permit)\(&?self\)|^\s*let (\w+) = [\w.]+\.\3(\(\))?;$")
+    """Comparisons and conversions by hand, and locals that are made for a format alone."""
+    found = matching(r"fn (same|kind_of|state_of|spelling|rows_of|link_memory)\b|fn (number|row|permit)\(&?self\) -> (u8|Row|Permit)")
+    for path in FILES:
+        text = path.read_text().split("\n")
+        for i, line in enumerate(text):
+            local = re.match(r"( +)let (\w+) = [\w.]+\.\2(?:\(\))?;$", line)
+            if local:
+                ends = (j for j in range(i, len(text)) if text[j].startswith(local.group(1)[4:] + "}"))
+                rest = "\n".join(text[i + 1 : next(ends, len(text))])
+                if not re.search(rf"\b{local.group(2)}\b", re.sub(r'"[^"]*"', "", rest)):
+                    found.append((f"{path.relative_to(ROOT / 'crates')}:{i + 1}", line.strip()))
+    return found
 
 
 def travelling():
@@ -147,8 +157,8 @@ def arrays():
 
 
 def switches():
-    """Parameters that say which way to go."""
-    return matching(r"\b(stop: Stop|role: Role|asked: Asked|turn: Turn)\b|match random")
+    """Enums that say which way to go, and numbers that pick a call."""
+    return matching(r"enum (Stop|Role|Asked|Turn) \{|match random")
 
 
 def answers():

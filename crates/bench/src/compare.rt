@@ -90,9 +90,9 @@ fn print_shelves(
     let mut chains = Chains::new(rt.alloc(), items, buckets)?;
     let mut marks = Marks::new(rt.alloc(), items, buckets)?;
     let alike = shelves_alike(&mut chains, &mut marks, many, clears);
-    let count = marks.count();
     println!(rt;
-        "{items} items, {buckets} buckets: chains and marks agree on {alike} of {many} calls; the last count is {count}"
+        "{items} items, {buckets} buckets: chains and marks agree on {alike} of {many} calls; the last count is {}",
+        marks.count()
     )
 }
 

@@ -1,10 +1,9 @@
 -- What a keeper tells of its places, said of stations and nodes.
-use Rattle.std.proofs.Common.{◌≡◌, ℕ, ◌<◌, true, false, length, Some, None, Option, MatchOption, sym, ap, ◌∙◌, subst, arith, le-ltb, lt-ltb}
-use Rattle.std.specs.Option.{is_some}
+use Rattle.std.proofs.Common.{◌≡◌, ℕ, ◌<◌, length, Some, None, Option, MatchOption, sym, ap, ◌∙◌, subst, arith, le-ltb, lt-ltb}
 use Rattle.tree.specs.Tree.{Tree, Runs}
 use Rattle.walk.specs.State.{Changed}
-use Rattle.walk.specs.Rules.{Lowest}
-use Rattle.walk.proofs.Runs.{Held, changed_set, run_lowest, run_changed}
+use Rattle.walk.specs.Rules.{Lowest, Nothing}
+use Rattle.walk.proofs.Runs.{Held, changed_set, run_lowest, run_nothing, run_changed}
 use Rattle.keeper.specs.Keeps.{Keeps, delay_at, noted, NoDelay, LeastFrom}
 use Rattle.settling.specs.Means.{sofar_of}
 
@@ -14,14 +13,11 @@ sofar_in t k u h = rw (lt-ltb u t.stations h)
 pub held : (t : Tree) (k : Keeps) → Held t (delay_at k) (sofar_of t k)
 held t k = record { at = λ u h. sofar_in t k u h; none = λ u h. rw (le-ltb u t.stations h) }
 
--- the least of a run, where there is one
-pub some_known : {k : Keeps} {low high : ℕ} (o : Option ℕ) → is_some o ≡ true → MatchOption o (NoDelay k low high) (λ d. LeastFrom k low high d) → (d : ℕ) × LeastFrom k low high d
-some_known None e h = let z : false ≡ true = e in absurd (cc)
-some_known (Some d) e h = (d, h)
-
-pub lowest_of : (t : Tree) (k : Keeps) (c low high d : ℕ) → Runs t → c < t.nodes → low ≡ t.low c → high ≡ t.high c → LeastFrom k low high d
-    → Lowest t (sofar_of t k) c d
-lowest_of t k c low high d runs listed is_low is_high l =
+-- the least of the places of a node's run is the least of the node
+pub least_means : (t : Tree) (k : Keeps) (c low high : ℕ) → Runs t → c < t.nodes → low ≡ t.low c → high ≡ t.high c → (o : Option ℕ)
+    → MatchOption o (NoDelay k low high) (LeastFrom k low high) → MatchOption o (Nothing t (sofar_of t k) c) (Lowest t (sofar_of t k) c)
+least_means t k c low high runs listed is_low is_high None b = run_nothing runs (held t k) (λ q a z. b q (omega arith) (omega arith))
+least_means t k c low high runs listed is_low is_high (Some d) l =
     run_lowest runs (held t k) listed (omega (arith, l.above)) (omega (arith, l.below)) l.there
     (λ q y a b e. l.least q y (omega arith) (omega arith) e)
 

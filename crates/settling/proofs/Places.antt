@@ -6,36 +6,31 @@ use Rattle.walk.specs.Rules.{Lowest, Slot, within, past, Belongs, falls, unknown
 use Rattle.walk.specs.Able.{Ready}
 use Rattle.walk.proofs.Runs.{changed_set}
 use Rattle.shelf.specs.Holds.{Holds, MayPut, bucket_at, lifted, placed}
-use Rattle.keeper.specs.Keeps.{Keeps, LeastFrom}
+use Rattle.keeper.specs.Keeps.{Keeps}
 use Rattle.settling.specs.declared.trail.Trail.{Trail}
 use Rattle.settling.specs.Means.{sofar_of, base_of, shelf_of, core_of}
 use Rattle.settling.specs.Asks.{Walkable, Brought}
-use Rattle.settling.proofs.Keepers.{lowest_of}
 
 slot_of : (t : Tree) (x k : ℕ) (r : Option ℕ) → MatchOption r (t.buckets x ≤ k) (λ b. (k < t.buckets x) × (b ≡ t.first x + k)) → Slot t x k r
 slot_of t x k None h = past h refl
 slot_of t x k (Some b) h = within h.0 (ap Some h.1)
 
 -- what `belongs` has in hand where the child has a least
-module _ (t : Tree) (k : Keeps) (base : ℕ → Option ℕ) (c x start low high d shift : ℕ) (tree : Walkable t) (listed : c < t.nodes)
-    (ready : Ready t (sofar_of t k) base c) (up : Some x ≡ t.parent c) (based : Some start ≡ base x) (is_low : low ≡ t.low c) (is_high : high ≡ t.high c)
-    (l : LeastFrom k low high d) (is_shift : shift ≡ t.level x - 1) where
-  the_lowest : Lowest t (sofar_of t k) c d
-  the_lowest = lowest_of t k c low high d tree.runs listed is_low is_high l
-
+module _ (t : Tree) (so_far base : ℕ → Option ℕ) (c x start d shift : ℕ) (ready : Ready t so_far base c) (up : Some x ≡ t.parent c)
+    (based : Some start ≡ base x) (l : Lowest t so_far c d) (is_shift : shift ≡ t.level x - 1) where
   pub start_below : start ≤ d / 2 ^ shift
   start_below =
-      let h = ready.above d the_lowest in
+      let h = ready.above d l in
       let e : ready.x ≡ x = cc in
       let s : ready.start ≡ start = cc (ap base e) in
       let w : d / width t ready.x ≡ d / 2 ^ shift = cc in omega arith
 
   pub belongs_at : (r : Option ℕ) → MatchOption r (t.buckets x ≤ d / 2 ^ shift - start) (λ b. (d / 2 ^ shift - start < t.buckets x) × (b ≡ t.first x + (d / 2 ^ shift - start)))
-      → Belongs t (sofar_of t k) base c r
+      → Belongs t so_far base c r
   belongs_at r h =
       let w : d / width t x ≡ d / 2 ^ shift = cc in
       let s = start_below in
-      falls x (d / 2 ^ shift - start) (record { parent = sym up; start = start; based = sym based; least = d; lowest = the_lowest; spot = omega arith })
+      falls x (d / 2 ^ shift - start) (record { parent = sym up; start = start; based = sym based; least = d; lowest = l; spot = omega arith })
       (slot_of t x (d / 2 ^ shift - start) r h)
 
 -- a call that answers true where F holds has been granted

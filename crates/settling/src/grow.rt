@@ -39,9 +39,7 @@ impl<S: Shelf, K: Keeper> Walker<'_, S, K> {
         ensures keeper { self.new.keeper ≡ self.old.keeper }
         ensures kept { Kept self.old self.new }
     {
-        let low = self.map.low_of(node);
-        let high = self.map.high_of(node);
-        let Some(d) = self.keeper.least(low, high) else {
+        let Some(d) = self.least_of(node) else {
             return;
         };
         let b = d >> self.map.shift_of(node);

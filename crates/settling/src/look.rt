@@ -1,6 +1,7 @@
 ghost use Rattle.std.specs.Prelude.{◌≡◌, ℕ, ◌<◌, List, ◌∷◌, Some, None, MatchBool, MatchOption};
 ghost use Rattle.network.specs.Network.{Network};
 ghost use Rattle.walk.specs.declared.frame.Frame.{Frame as FrameOf};
+ghost use Rattle.walk.specs.Rules.{Lowest, Nothing};
 ghost use Rattle.walk.specs.Steps.{Going, Ended, Taken, Step};
 ghost use Rattle.walk.specs.Able.{Ready};
 ghost use Rattle.settling.specs.Means.{core_at, tree_at, Kept};
@@ -13,6 +14,17 @@ use shelf::Shelf;
 use walk::frame::Frame;
 
 impl<S: Shelf, K: Keeper> Walker<'_, S, K> {
+    /// The least of a node: the smallest delay that the keeper has of its stations.
+    pub(crate) fn least_of(&self, node: u32) -> Option<u64>
+        requires listed { node < (tree_at self.now).nodes }
+        requires tree { Walkable (tree_at self.now) }
+        ensures { let s = core_at self.now in MatchOption result (Nothing (tree_at self.now) s.so_far node) (Lowest (tree_at self.now) s.so_far node) }
+    {
+        let low = self.map.low_of(node);
+        let high = self.map.high_of(node);
+        self.keeper.least(low, high)
+    }
+
     /// Whether the visit `f` goes on: its node has an unvisited station, and its counter is still in the bucket of the parent in which it was.
     pub(crate) fn goes_on(&self, f: Frame) -> bool
         requires listed { f.node < (tree_at self.now).nodes }
@@ -20,9 +32,7 @@ impl<S: Shelf, K: Keeper> Walker<'_, S, K> {
         requires watch { let s = core_at self.now in Watch (tree_at self.now) s.final s.so_far f.node }
         ensures { let s = core_at self.now in MatchBool result (Going (tree_at self.now) s f) (Ended (tree_at self.now) s f) }
     {
-        let low = self.map.low_of(f.node);
-        let high = self.map.high_of(f.node);
-        if self.keeper.least(low, high).is_none() {
+        if self.least_of(f.node).is_none() {
             return false;
         }
         let Some(p) = self.map.parent_of(f.node) else {

@@ -22,9 +22,7 @@ impl<S: Shelf, K: Keeper> Walker<'_, S, K> {
     {
         let x = self.map.parent_of(node)?;
         let start = self.trail.base_of(x)?;
-        let d = self
-            .keeper
-            .least(self.map.low_of(node), self.map.high_of(node))?;
+        let d = self.least_of(node)?;
         let k = (d >> self.map.shift_of(x)) - start;
         self.map.bucket_at(x, k)
     }

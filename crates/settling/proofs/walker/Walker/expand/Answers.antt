@@ -3,20 +3,12 @@ use Rattle.walk.specs.State.{Core}
 use Rattle.walk.proofs.Handover.{child_ready}
 use Rattle.settling.specs.Means.{core_at, Opened, tree_at}
 use Rattle.settling.specs.Parts.{Grown}
-use Rattle.settling.proofs.Keepers.{lowest_of}
 use Rattle.settling.proofs.Trails.{opened_base, opened_count}
 use Rattle.settling.proofs.Walkers.{same_rest, grown_is}
 use Rattle.settling.proofs.walker.Walker.expand.Given as given
 use Rattle.settling.proofs.walker.Walker.expand.Goals as goal
-use Rattle.walk.specs.Rules.{Lowest}
 use Rattle.tree.specs.Tree.{width}
 use Rattle.settling.proofs.walker.Walker.expand.Goals.{After-open}
-
-lowest : (g : given.Over) (c : After-open g)
-    → Lowest (tree_at c.args.self.now) (core_at c.args.self.now).so_far c.args.node c.in-Some.d
-lowest g c =
-    lowest_of (tree_at c.args.self.now) (g.K.Keeper.meaning c.args.self.now.keeper) c.args.node c.low_of-low.result c.high_of-high.result c.in-Some.d c.requires.tree.runs
-    c.requires.listed c.low_of-low.ensures c.high_of-high.ensures c.in-Some.ensures
 
 opened : (g : given.Over) (c : After-open g)
     → Opened c.args.self.now.trail c.open.new.self c.args.node (c.in-Some.d / width (tree_at c.args.self.now) c.args.node)
@@ -29,7 +21,7 @@ listed g c = omega (arith, c.requires.listed, c.args.self.now.nodes, c.args.self
 pub put_children-requires-clause-ready : goal.put_children-requires-clause-ready
 put_children-requires-clause-ready g c =
     let at = (goal.at.put_children-requires-clause-ready g c).After-open in
-    λ x up. child_ready (lowest g at) (opened_base _ _ _ (listed g at) _ (opened g at)) up
+    λ x up. child_ready c.in-Some.ensures (opened_base _ _ _ (listed g at) _ (opened g at)) up
 
 pub returns-clause-grown : goal.returns-clause-grown
 returns-clause-grown g c =
@@ -43,7 +35,7 @@ returns-clause-grown g c =
     subst (λ (z : Core). Grown (tree_at c.args.self.now) x (core_at c.args.self.now) z) (sym same) (record {
       d = c.in-Some.d;
       expand = record {
-        lowest = lowest g at;
+        lowest = c.in-Some.ensures;
         base = opened_base w w₁ x (listed g at) _ (opened g at);
         count = opened_count w w₁ x (listed g at) _ (opened g at);
         puts = put.ensures.puts;

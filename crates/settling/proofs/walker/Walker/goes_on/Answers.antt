@@ -1,16 +1,17 @@
 use Rattle.std.proofs.Common.{sym, refl, rules, ℕ}
-use Rattle.settling.proofs.Keepers.{lowest_of, some_known}
-use Rattle.settling.proofs.Looks.{going_root, decided}
+use Rattle.std.proofs.lemmas.Option.{MatchOption-at_some}
+use Rattle.settling.proofs.Looks.{some_where, going_root, decided}
 use Rattle.settling.specs.Means.{tree_at, core_at}
 use Rattle.settling.proofs.walker.Walker.goes_on.Given as given
 use Rattle.settling.proofs.walker.Walker.goes_on.Goals as goal
-use Rattle.walk.specs.Rules.{Lowest}
+use Rattle.walk.specs.Rules.{Lowest, Nothing}
 use Rattle.settling.proofs.walker.Walker.goes_on.Goals.{Else-is_none}
 
 least : (g : given.Over) (c : Else-is_none g) → (d : ℕ) × Lowest (tree_at c.args.self.now) (core_at c.args.self.now).so_far c.args.f.node d
 least g c =
-    let l = some_known c.least.result (search rules) c.least.ensures in
-    (l.0, lowest_of _ (g.K.Keeper.meaning c.args.self.now.keeper) _ _ _ _ c.requires.tree.runs c.requires.listed c.low_of-low.ensures c.high_of-high.ensures l.1)
+    let s = core_at c.args.self.now in
+    let at = some_where c.least_of.result (search rules) in
+    (at.0, MatchOption-at_some (Nothing (tree_at c.args.self.now) s.so_far c.args.f.node) (Lowest (tree_at c.args.self.now) s.so_far c.args.f.node) at.0 at.1 c.least_of.ensures)
 
 pub returns-in_default : goal.returns-in_default
 returns-in_default g c =
