@@ -1,4 +1,3 @@
 pub mod Fresh
 pub mod Histories
-pub mod Permits
 pub mod Soundness

@@ -1,6 +1,6 @@
 ghost use Rattle.std.specs.Prelude.{◌≡◌, ℕ, ◌<◌, ◌≤◌, Bool, true, false, length, MatchOption, slice_index_or};
 ghost use Rattle.network.specs.Network.{row as row_of};
-ghost use Rattle.book.specs.Matter.{matter, links};
+ghost use Rattle.book.specs.Matter.{matter, links, Struck};
 
 use super::book::Book;
 use super::stage::Stage;
@@ -45,9 +45,10 @@ impl Book {
         Link::of_row(entry.row, self.scheme.stations).ok()
     }
 
-    /// Whether the link of that number is in service; one that the book has not is not.
+    /// Whether the link of that number is in service; one that the book has not is not, and one that is struck is not.
     pub fn in_service(&self, number: u32) -> bool
-        ensures { result ≡ slice_index_or (matter self.now).network.service number false }
+        ensures served { result ≡ slice_index_or (matter self.now).network.service number false }
+        ensures apart { result ≡ true → Struck (matter self.now) number → ⊥ }
     {
         self.scheme
             .entry(number as usize)

@@ -1,4 +1,4 @@
-ghost use Rattle.std.specs.Prelude.{◌≡◌, ◌↔◌, IsTrue, MatchResult};
+ghost use Rattle.std.specs.Prelude.{◌≡◌, ◌↔◌, IfOk, IsTrue, MatchResult};
 ghost use Rattle.book.specs.Matter.{matter, stood};
 ghost use Rattle.book.specs.Calls.{Withdraws, Out, Good, NotGood, Ends, GivesBack, Strikes, Annuls};
 
@@ -10,9 +10,10 @@ use network::entry::Standing;
 
 impl Book {
     /// Takes a link out of service, and answers the permit to put it back. Refuses a link that the book has not, and one that is not
-    /// in service.
+    /// in service. The permit can be given back or struck at once.
     pub fn withdraw(&mut self, link: u32) -> Result<Permit, Refusal>
-        ensures { Withdraws (matter self.old) link result (matter self.new) }
+        ensures withdrawn { Withdraws (matter self.old) link result (matter self.new) }
+        ensures good { IfOk result (λ p. Good (matter self.new) p) }
     {
         let entry = self.scheme.entry(link as usize).ok_or(Refusal::NoSuchLink)?;
         if entry.standing != Standing::In {

@@ -44,7 +44,6 @@ fn print_fault(rt: &HostRuntime, fault: Fault) -> anyhow::Result<()> {
 }
 
 /// Takes a link out of service for good.
-#[tactic(auto, using(book::proofs::Permits::struck))]
 fn strike_out(book: &mut Book, link: u32) -> Result<(), Refusal> {
     let permit = book.withdraw(link)?;
     book.strike(permit).unwrap();

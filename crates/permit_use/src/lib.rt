@@ -9,7 +9,6 @@ use book::book::Book;
 use book::refusal::PermitRefusal;
 
 /// Takes a link out of service and puts it back; false where it was not in service.
-#[tactic(auto, using(book::proofs::Permits::given_back))]
 pub fn out_and_back(book: &mut Book, link: u32) -> bool
     ensures was { result ≡ slice_index_or (matter book.old).network.service link false }
     ensures back { result ≡ true → In (matter book.new) link }
@@ -24,7 +23,6 @@ pub fn out_and_back(book: &mut Book, link: u32) -> bool
 
 // Kept: one function over a closure would ask of the closure all that giving back or striking promises, to save two lines of each.
 /// Takes a link out of service for good; false where it was not in service.
-#[tactic(auto, using(book::proofs::Permits::struck))]
 pub fn out_for_good(book: &mut Book, link: u32) -> bool
     ensures was { result ≡ slice_index_or (matter book.old).network.service link false }
     ensures gone { result ≡ true → Struck (matter book.new) link }
