@@ -26,7 +26,7 @@ never_refused n r (EqualEnds back) s w = s.1 w.1
 never_refused n r (NoDelay back) s w = omega (arith, s.2, w.2)
 
 pub made : (n k m : ℕ) (r : Row) (answer : Result Link RowRefusal) → k < m → Sound n r
-    → MatchResult answer (λ l. Sound n r × (l.from ≡ r.from) × (l.to ≡ r.to) × (l.ns ≡ r.ns)) (λ e. Refused n r e)
-    → MatchOption (result_ok answer) (m ≤ k) (λ l. (k < m) × (l.from ≡ r.from) × (l.to ≡ r.to) × (l.ns ≡ r.ns))
-made n k m r (Ok l) h s w = (h, w.1, w.2, w.3)
+    → MatchResult answer (λ l. Sound n r × (l.row ≡ r)) (λ e. Refused n r e)
+    → MatchOption (result_ok answer) (m ≤ k) (λ l. (k < m) × (l.row ≡ r))
+made n k m r (Ok l) h s w = (h, w.1)
 made n k m r (Err e) h s w = absurd (never_refused n r e s w.0)

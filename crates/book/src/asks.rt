@@ -39,7 +39,7 @@ impl Book {
     /// The link of that number, made from its row; none where the book has no such link.
     #[tactic(auto, using(crate::proofs::Soundness::made, crate::proofs::Soundness::proper))]
     pub fn link(&self, number: u32) -> Option<Link>
-        ensures { MatchOption result (links (matter self.now) ≤ number) (λ l. (number < links (matter self.now)) × (l.from ≡ (row_of (matter self.now).network number).from) × (l.to ≡ (row_of (matter self.now).network number).to) × (l.ns ≡ (row_of (matter self.now).network number).ns)) }
+        ensures { MatchOption result (links (matter self.now) ≤ number) (λ l. (number < links (matter self.now)) × (l.row ≡ row_of (matter self.now).network number)) }
     {
         let entry = self.scheme.entry(number as usize)?;
         Link::of_row(entry.row, self.scheme.stations).ok()

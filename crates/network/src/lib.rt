@@ -1,5 +1,5 @@
-//! The network of relay stations: rows as they are given, link records made from them, levels of delays, and the laws of
-//! the words that specs/ defines (routes, least delays, groups).
+//! The network of relay stations: rows as they are given, link records made from them, levels of delays, schemes with where each link
+//! stands, and the laws of the words that specs/ defines (routes, least delays, groups).
 
 #![tactic(auto)]
 

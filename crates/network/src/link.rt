@@ -10,19 +10,17 @@ use super::row::Row;
 /// 4,294,967,295 nanoseconds: no other can be made.
 #[derive(Clone, Copy)]
 pub struct Link {
-    from: u32,
-    to: u32,
-    ns: u32,
-    ghost apart: { from ≢ to },
-    ghost delayed: { 1 ≤ ns },
-    ghost bounded: { ns ≤ 4294967295 },
+    row: Row,
+    ghost apart: { row.from ≢ row.to },
+    ghost delayed: { 1 ≤ row.ns },
+    ghost bounded: { row.ns ≤ 4294967295 },
 }
 
 impl Link {
     /// The link that a row describes, in a network of so many stations. Refuses, in this order: an end that is no station,
     /// equal ends, a delay of 0; and hands the row back.
     pub fn of_row(row: Row, stations: u32) -> Result<Link, RowRefusal>
-        ensures { MatchResult result (λ l. Sound stations row × (l.from ≡ row.from) × (l.to ≡ row.to) × (l.ns ≡ row.ns)) (λ e. Refused stations row e) }
+        ensures { MatchResult result (λ l. Sound stations row × (l.row ≡ row)) (λ e. Refused stations row e) }
     {
         if row.from >= stations || row.to >= stations {
             return Err(RowRefusal::EndOutside(row));
@@ -33,38 +31,34 @@ impl Link {
         if row.ns == 0 {
             return Err(RowRefusal::NoDelay(row));
         }
-        Ok(Link {
-            from: row.from,
-            to: row.to,
-            ns: row.ns,
-        })
+        Ok(Link { row })
     }
 
     /// One end.
     pub fn from(self) -> u32
-        ensures { result ≡ self.from }
+        ensures { result ≡ self.row.from }
     {
-        self.from
+        self.row.from
     }
 
     /// The other end.
     pub fn to(self) -> u32
-        ensures { result ≡ self.to }
+        ensures { result ≡ self.row.to }
     {
-        self.to
+        self.row.to
     }
 
     /// The delay in nanoseconds.
     pub fn ns(self) -> u32
-        ensures { result ≡ self.ns }
+        ensures { result ≡ self.row.ns }
     {
-        self.ns
+        self.row.ns
     }
 
     /// The level of the link: the i with 2^(i−1) ≤ ns < 2^i.
     pub fn level(self) -> u32
-        ensures { IsLevel self.ns result }
+        ensures { IsLevel self.row.ns result }
     {
-        level(self.ns)
+        level(self.row.ns)
     }
 }
