@@ -35,6 +35,7 @@ impl Model for Nodes {
 impl Nodes {
     ghost use Rattle.making.specs.Numbers.{StationsFirst, Numbered, Few};
 
+    // Kept: like `Groups::new`, a maker of one line; a generic list with a const room would need its own model for it.
     /// Memory for the tree of the largest network. It holds no node.
     pub(crate) fn new(heap: Global) -> Result<Nodes, AllocError>
         ensures { IfOk result (λ nodes. nodes ≡ []) }
@@ -78,7 +79,7 @@ impl Nodes {
         ensures numbered { Numbered (network_of scheme.now) (suc done) 0 self.new }
         ensures first { StationsFirst scheme.now.stations self.old → StationsFirst scheme.now.stations self.new }
     {
-        // Kept: a loop over stations, which are numbers; whether a group forms is asked of the number.
+        // Kept: a loop over stations, which are numbers; a push into reserved room cannot fail, while `extend` may ask for memory.
         for s in 0..scheme.stations {
             if groups.forms(s) {
                 self.list.push_reserved(Node {

@@ -22,7 +22,7 @@ impl<S: Shelf, K: Keeper> Walker<'_, S, K> {
         ensures keeper { self.new.keeper ≡ self.old.keeper }
         ensures kept { Kept self.old self.new }
     {
-        // Kept: a child is asked for by its number, since a map's run of children may reach past their list, where a child reads as 0.
+        // Kept: children by number: a list of them would need the run to lie within the map's list, and that would be asked of whoever makes a map.
         for i in 0..self.map.many_of(node) {
             let c = self.map.child_of(node, i);
             self.bring(c);

@@ -2,5 +2,6 @@
 #[derive(Clone, Copy, Debug, Default, PartialEq, Eq)]
 pub struct Progress {
     pub base: Option<u64>,
+    // Kept: beside the base and not with it in one Option: a counter is read as 0 before its node is expanded.
     pub count: u64,
 }

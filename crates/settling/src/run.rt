@@ -43,7 +43,7 @@ impl<S: Shelf, K: Keeper> Walker<'_, S, K> {
         ensures run { Run (net_at self.old) (tree_at self.old) source (record { core = core_at self.new; frames = [] }) }
         ensures kept { Kept self.old self.new }
     {
-        // A walk has far fewer steps, so the range never runs out.
+        // Kept: a range, which never runs out, since no measure that the code can name falls with each step.
         for _step in 0..u32::MAX {
             let Some(f) = frames.top() else {
                 return;

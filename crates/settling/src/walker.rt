@@ -11,7 +11,8 @@ use shelf::Shelf;
 /// What walks have in hand: the scheme and its map, and their trail, shelf and keeper, which have room for the map.
 #[derive(Drop)]
 pub struct Walker<'a, S: Shelf, K: Keeper> {
-    // Kept: that the map is a tree of the scheme's network is a `requires`: as a ghost field it was refused, since it has more than one proof.
+    // Kept: `Charted` and `Walkable` are asked by the methods and no ghost fact: that takes a fact with one proof, and `near` and `seat` in them
+    // hold a route and a station; truncated it would prove nothing here, since the contracts (Belongs, Step, Run) are themselves data.
     pub scheme: &'a Scheme,
     pub map: &'a Map,
     pub trail: Trail,

@@ -1,4 +1,4 @@
-//! The meanings suffice: functions over any shelf and over any keeper, proved from the meaning alone.
+//! The meanings suffice: functions over any shelf, any keeper and the stack, proved from the meanings alone.
 
 #![tactic(auto)]
 

@@ -4,6 +4,7 @@ ghost use Rattle.suffices.specs.Passed.{times, counts, count_in, MayPass, SameSi
 
 use shelf::Shelf;
 
+// Kept: shelf, bucket and items are three parameters here and below: a struct of them would be made for these three functions alone, and taken apart in each.
 /// Puts all items of a list into one bucket of a cleared shelf, up to the first that is refused.
 fn put_all<S: Shelf>(shelf: &mut S, bucket: u32, items: &[u32]) -> bool
     ensures kept { SameSize (S.Shelf.meaning shelf.old) (S.Shelf.meaning shelf.new) }
@@ -12,6 +13,7 @@ fn put_all<S: Shelf>(shelf: &mut S, bucket: u32, items: &[u32]) -> bool
     ensures refused { result ≡ false → MayPass (S.Shelf.meaning shelf.old) bucket items.now → ⊥ }
 {
     shelf.clear();
+    // Kept: `all` was tried and the proof did not close: nothing is known of a shelf that a closure changed at each item.
     for item in items {
         if !shelf.put(*item, bucket) {
             return false;
