@@ -1,8 +1,10 @@
 -- What the parts of a visit ask of each other, and what they promise.
-use Rattle.std.specs.Prelude.{◌≡◌, ℕ, ◌+◌, ◌^◌, ◌<◌, ◌≤◌, ◌≢◌, length, Some, None, Option}
-use Rattle.network.specs.Network.{Network, Hop}
+use Rattle.std.specs.Prelude.{◌≡◌, ℕ, ◌+◌, ◌^◌, ◌<◌, ◌≤◌, ◌≢◌, false, length, Some, None, Option, slice_index_or}
+use Rattle.network.specs.Network.{Network, Hop, row}
 use Rattle.network.specs.Schemes.{network_of}
 use Rattle.network.specs.declared.scheme.Scheme.{Scheme}
+use Rattle.network.specs.declared.entry.Entry.{Entry}
+use Rattle.network.specs.Entries.{is_in}
 use Rattle.tree.specs.Tree.{Tree, Fits, Sized, Runs, buckets_in_all}
 use Rattle.walk.specs.State.{Shelf, Core, called}
 use Rattle.walk.specs.Rules.{Belongs, Moved, Call, Links}
@@ -29,6 +31,12 @@ pub record Brought (t : Tree) (s : Core) (c : ℕ) (h' : Shelf) : Type 0 where
   pub to : Option ℕ
   pub belongs : Belongs t s.so_far s.base c to
   pub moved : Moved t c to s.shelf h'
+
+-- e is the entry of the link k
+pub record EntryOf (g : Network) (k : ℕ) (e : Entry) : Type 0 where
+  pub listed : k < length g.rows
+  pub is_row : e.row ≡ row g k
+  pub up : is_in e.standing ≡ slice_index_or g.service k false
 
 -- the link k leads from v to u and nowhere else
 pub record Only (g : Network) (k v u : ℕ) : Type 0 where

@@ -1,23 +1,19 @@
 ghost use Rattle.std.specs.Prelude.{◌≡◌, ℕ, ◌^◌, ◌<◌, length, MatchOption};
-ghost use Rattle.network.specs.Network.{Hop, delay};
-ghost use Rattle.network.specs.Schemes.{network_of};
+ghost use Rattle.network.specs.Network.{Network, Hop};
 ghost use Rattle.walk.specs.Rules.{Link, Links};
 ghost use Rattle.walk.specs.Able.{Apt, Safe};
 ghost use Rattle.settling.specs.Means.{core_at, net_at, tree_at, Kept};
-ghost use Rattle.settling.specs.Asks.{Charted, Only};
+ghost use Rattle.settling.specs.Asks.{Charted, EntryOf, Only};
 
 use super::walker::Walker;
 use keeper::Keeper;
-use network::entry::Standing;
-use network::scheme::Scheme;
+use network::entry::{Entry, Standing};
 use shelf::Shelf;
 
-/// Where the link `k` leads from the station `v`, if it is in service and a link of `v`.
-pub(crate) fn other_end(scheme: &Scheme, v: u32, k: usize) -> Option<u32>
-    ensures { MatchOption result ((u : ℕ) → Hop (network_of scheme.now) k v u → ⊥)
-        (λ u. Only (network_of scheme.now) k v u) }
+/// Where a link leads from the station `v`, if it is in service and a link of `v`.
+pub(crate) fn other_end(v: u32, entry: Entry) -> Option<u32>
+    ensures { (g : Network) (k : ℕ) → EntryOf g k entry → MatchOption result ((u : ℕ) → Hop g k v u → ⊥) (λ u. Only g k v u) }
 {
-    let entry = scheme.entry(k)?;
     if entry.standing != Standing::In {
         return None;
     }
@@ -31,31 +27,25 @@ pub(crate) fn other_end(scheme: &Scheme, v: u32, k: usize) -> Option<u32>
     }
 }
 
-/// How many nanoseconds the link `k` takes; 0 past the last.
-fn delay_of(scheme: &Scheme, k: usize) -> u32
-    ensures { result ≡ delay (network_of scheme.now) k }
-{
-    scheme.entry(k).map_or(0, |entry| entry.row.ns)
-}
-
 impl<S: Shelf, K: Keeper> Walker<'_, S, K> {
-    /// Follows the link `k` of the visited station `v`, whose delay is `d`.
-    pub(crate) fn lower_along(&mut self, v: u32, d: u64, k: usize)
+    /// Follows the link `k`, whose entry this is, from the visited station `v`, whose delay is `d`.
+    pub(crate) fn lower_along(&mut self, v: u32, d: u64, k: usize, entry: Entry)
         requires charted { Charted self.old.scheme.now self.old.map.now }
         requires short { d < 2 ^ 63 }
+        requires entry { EntryOf (net_at self.old) k entry }
         requires apt { Apt (net_at self.old) (tree_at self.old) (core_at self.old) v d k }
         ensures link { Link (net_at self.old) (tree_at self.old) v d k
             (core_at self.old) (core_at self.new) }
         ensures trail { self.new.trail ≡ self.old.trail }
         ensures kept { Kept self.old self.new }
     {
-        let Some(u) = other_end(self.scheme, v, k) else {
+        let Some(u) = other_end(v, entry) else {
             return;
         };
         if self.trail.final_of(u).is_some() {
             return;
         }
-        let sum = d + u64::from(delay_of(self.scheme, k));
+        let sum = d + u64::from(entry.row.ns);
         let place = self.map.place_of(u);
         if self.keeper.lower(place, sum) {
             let c = self.trail.front(self.map, u);
@@ -73,9 +63,9 @@ impl<S: Shelf, K: Keeper> Walker<'_, S, K> {
         ensures trail { self.new.trail ≡ self.old.trail }
         ensures kept { Kept self.old self.new }
     {
-        // Kept: a link is named by its number in the rules of the walk, so the loop goes over numbers.
-        for k in 0..self.scheme.links.len() {
-            self.lower_along(v, d, k);
+        let scheme = self.scheme;
+        for (k, entry) in scheme.links.iter().enumerate() {
+            self.lower_along(v, d, k, *entry);
         }
     }
 }

@@ -15,9 +15,10 @@ asked : (g : given.Over) (c : After-lower g)
     c.in-Some.u c.place_of-place.result (c.args.d + c.from.result)
 asked g c =
     let m = c.args.self.now.map.now in
-    let st = hop_end c.requires.charted.fits c.in-Some.ensures.hop in
+    let leads = c.in-Some.ensures (net_at c.args.self.now) c.args.k c.requires.entry in
+    let st = hop_end c.requires.charted.fits leads.hop in
     record {
-      hop = c.in-Some.ensures.hop;
+      hop = leads.hop;
       station = st;
       is_place = c.place_of-place.ensures;
       place = omega (arith, m.seated c.in-Some.u st, c.place_of-place.ensures, c.args.self.now.places);
@@ -26,11 +27,12 @@ asked g c =
     }
 
 pub returns-in_default-clause-link : goal.returns-in_default-clause-link
-returns-in_default-clause-link g c = skip (λ u j. absurd (c.in_default.ensures u j))
+returns-in_default-clause-link g c = skip (λ u j. absurd (c.in_default.ensures (net_at c.args.self.now) c.args.k c.requires.entry u j))
 
 pub returns-then-is_some-clause-link : goal.returns-then-is_some-clause-link
 returns-then-is_some-clause-link g c =
-    let at = some_where (final_of c.args.self.now.trail c.in-Some.u) (search rules) in link_skip _ _ _ _ _ c.in-Some.u _ _ c.in-Some.ensures.only at.1
+    let leads = c.in-Some.ensures (net_at c.args.self.now) c.args.k c.requires.entry in
+    let at = some_where (final_of c.args.self.now.trail c.in-Some.u) (search rules) in link_skip _ _ _ _ _ c.in-Some.u _ _ leads.only at.1
 
 pub front-c-requires-clause-tree : goal.front-c-requires-clause-tree
 front-c-requires-clause-tree g c = walkable c.requires.charted
@@ -63,3 +65,13 @@ returns-else-lower-clause-link g c =
     let a = asked g (goal.at.returns-else-lower-clause-link g c).After-lower in
     let hi = c.lower.ensures.refused c.if-lower.false in
     link_keep a (g.S.Shelf.meaning c.args.self.now.shelf) (g.K.Keeper.meaning c.lower.new.self) hi.0 hi.1
+
+pub front-c-requires-clause-shut : goal.front-c-requires-clause-shut
+front-c-requires-clause-shut g c =
+    let leads = c.in-Some.ensures (net_at c.args.self.now) c.args.k c.requires.entry in
+    c.requires.apt.shut c.in-Some.u (hop_end c.requires.charted.fits leads.hop)
+
+pub front-c-requires-clause-fronted : goal.front-c-requires-clause-fronted
+front-c-requires-clause-fronted g c =
+    let leads = c.in-Some.ensures (net_at c.args.self.now) c.args.k c.requires.entry in
+    c.requires.apt.front c.in-Some.u leads.hop (search rules)
