@@ -11,7 +11,7 @@ use Rattle.shelf.specs.declared.Shelf.{Ghosts as ShelfOf}
 use Rattle.keeper.specs.declared.Keeper.{Ghosts as KeeperOf}
 use Rattle.settling.specs.declared.trail.Trail.{Trail}
 use Rattle.settling.specs.declared.walker.Walker.{Walker}
-use Rattle.settling.specs.Means.{final_of, sofar_of, base_of, count_of, shelf_of, core_of, core_at, Kept, Opened, Risen}
+use Rattle.settling.specs.Means.{final_of, sofar_of, base_of, count_of, shelf_of, core_of, core_at, Kept, OnlyShelf, Opened, Risen}
 use Rattle.settling.proofs.Trails.{risen_base}
 
 pub same_rest : {m m' : Map} {w w' : Trail} {k k' : Keeps} (h h' : Holds) → m' ≡ m → w' ≡ w → k' ≡ k
@@ -26,8 +26,8 @@ same_rest h h' same_map same_trail same_keeper =
     }
 
 module _ {S K : Type 0} {s : ShelfOf S} {k : KeeperOf K} where
-  pub shelved_is : (w w' : Walker S K s k) → Kept w w' → w'.trail ≡ w.trail → w'.keeper ≡ w.keeper → core_at w' ≡ shelved (core_at w) (core_at w').shelf
-  shelved_is w w' kept same_trail same_keeper = same_rest (s.meaning w.shelf) (s.meaning w'.shelf) kept.map same_trail (ap k.meaning same_keeper)
+  pub shelved_is : (w w' : Walker S K s k) → OnlyShelf w w' → core_at w' ≡ shelved (core_at w) (core_at w').shelf
+  shelved_is w w' only = same_rest (s.meaning w.shelf) (s.meaning w'.shelf) only.kept.map only.trail (ap k.meaning only.keeper)
 
   pub kept_same : (w : Walker S K s k) → Kept w w
   kept_same w = record { scheme = refl; map = refl; settled = refl; nodes = refl; items = refl; buckets = refl; places = refl }
@@ -43,6 +43,12 @@ module _ {S K : Type 0} {s : ShelfOf S} {k : KeeperOf K} where
         buckets = b.buckets ∙ a.buckets;
         places = b.places ∙ a.places;
       }
+
+  pub only_same : (w : Walker S K s k) → OnlyShelf w w
+  only_same w = record { kept = kept_same w; trail = refl; keeper = refl }
+
+  pub only_then : {w w₁ w' : Walker S K s k} → OnlyShelf w w₁ → OnlyShelf w₁ w' → OnlyShelf w w'
+  only_then a b = record { kept = kept_then a.kept b.kept; trail = b.trail ∙ a.trail; keeper = b.keeper ∙ a.keeper }
 
   -- what is said of scheme and map is said of them after, too
   pub kept_on : {w w' : Walker S K s k} → Kept w w' → (P : Scheme → Map → Type 0) → P w.scheme.now w.map.now → P w'.scheme.now w'.map.now

@@ -59,6 +59,12 @@ pub record Kept {S K : Type 0} {s : ShelfOf S} {k : KeeperOf K} (walker walker' 
   pub buckets : (s.meaning walker'.shelf).buckets ≡ (s.meaning walker.shelf).buckets
   pub places : (k.meaning walker'.keeper).places ≡ (k.meaning walker.keeper).places
 
+-- nothing of a walker changed but what stands on its shelf
+pub record OnlyShelf {S K : Type 0} {s : ShelfOf S} {k : KeeperOf K} (walker walker' : Walker S K s k) : Type 0 where
+  pub kept : Kept walker walker'
+  pub trail : walker'.trail ≡ walker.trail
+  pub keeper : walker'.keeper ≡ walker.keeper
+
 -- d was made the delay of v
 pub record SettledAt (w w' : Trail) (v d : ℕ) : Type 0 where
   pub settled : vec_items w'.settled ≡ slice_set (vec_items w.settled) v (Some d)

@@ -1,7 +1,7 @@
 ghost use Rattle.std.specs.Prelude.{◌≡◌, ℕ, ◌<◌, ◌≤◌, Some};
 ghost use Rattle.walk.specs.Rules.{Puts, Nothing};
 ghost use Rattle.walk.specs.Able.{Ready};
-ghost use Rattle.settling.specs.Means.{core_at, tree_at, Kept};
+ghost use Rattle.settling.specs.Means.{core_at, tree_at, Kept, OnlyShelf};
 ghost use Rattle.settling.specs.Asks.{Walkable};
 ghost use Rattle.settling.specs.Parts.{Kids, Grown};
 
@@ -18,9 +18,7 @@ impl<S: Shelf, K: Keeper> Walker<'_, S, K> {
             (c : ℕ) → (tree_at self.old).parent c ≡ Some node → Ready (tree_at self.old) s.so_far s.base c }
         ensures puts { let s = core_at self.old in
             Puts (tree_at self.old) s.so_far s.base ((tree_at self.old).children node) s.shelf (core_at self.new).shelf }
-        ensures trail { self.new.trail ≡ self.old.trail }
-        ensures keeper { self.new.keeper ≡ self.old.keeper }
-        ensures kept { Kept self.old self.new }
+        ensures only_shelf { OnlyShelf self.old self.new }
     {
         // Kept: children by number: a list of them would need the run to lie within the map's list, and that would be asked of whoever makes a map.
         for i in 0..self.map.many_of(node) {

@@ -4,7 +4,7 @@ ghost use Rattle.walk.specs.declared.frame.Frame.{Frame as FrameOf};
 ghost use Rattle.walk.specs.Rules.{Lowest, Nothing};
 ghost use Rattle.walk.specs.Steps.{Going, Ended, Taken, Step};
 ghost use Rattle.walk.specs.Able.{Ready};
-ghost use Rattle.settling.specs.Means.{core_at, tree_at, Kept};
+ghost use Rattle.settling.specs.Means.{core_at, tree_at, OnlyShelf};
 ghost use Rattle.settling.specs.Asks.{Walkable};
 ghost use Rattle.settling.specs.Parts.{Watch, Counting, FoundEmpty};
 
@@ -53,9 +53,7 @@ impl<S: Shelf, K: Keeper> Walker<'_, S, K> {
         requires ended { Ended (tree_at self.old) (core_at self.old) f }
         ensures step { (g : Network) (fs : List FrameOf) → Step g (tree_at self.old)
             (record { core = core_at self.old; frames = f ∷ fs }) (record { core = core_at self.new; frames = fs }) }
-        ensures trail { self.new.trail ≡ self.old.trail }
-        ensures keeper { self.new.keeper ≡ self.old.keeper }
-        ensures kept { Kept self.old self.new }
+        ensures only_shelf { OnlyShelf self.old self.new }
     {
         if self.map.parent_of(f.node).is_some() {
             self.bring(f.node);
@@ -67,9 +65,7 @@ impl<S: Shelf, K: Keeper> Walker<'_, S, K> {
         requires { Counting (tree_at self.old) (core_at self.old) node }
         ensures looked { let s = core_at self.old in let h = (core_at self.new).shelf in
             MatchOption result (FoundEmpty (tree_at self.old) s node h) (λ c. Taken (tree_at self.old) s node c h) }
-        ensures trail { self.new.trail ≡ self.old.trail }
-        ensures keeper { self.new.keeper ≡ self.old.keeper }
-        ensures kept { Kept self.old self.new }
+        ensures only_shelf { OnlyShelf self.old self.new }
     {
         let start = self.trail.base_of(node)?;
         let k = self.trail.count_of(node) - start;

@@ -2,7 +2,7 @@ ghost use Rattle.std.specs.Prelude.{◌≡◌, ◌<◌, None};
 ghost use Rattle.walk.specs.Rules.{Belongs, Front};
 ghost use Rattle.walk.specs.Able.{Ready, Fronted};
 ghost use Rattle.map.specs.Means.{tree_of};
-ghost use Rattle.settling.specs.Means.{base_of, core_at, tree_at, Kept};
+ghost use Rattle.settling.specs.Means.{base_of, core_at, tree_at, OnlyShelf};
 ghost use Rattle.settling.specs.Asks.{Walkable, Brought};
 
 use super::trail::Trail;
@@ -34,9 +34,7 @@ impl<S: Shelf, K: Keeper> Walker<'_, S, K> {
         requires tree { Walkable (tree_at self.old) }
         requires ready { let s = core_at self.old in Ready (tree_at self.old) s.so_far s.base node }
         ensures brought { Brought (tree_at self.old) (core_at self.old) node (core_at self.new).shelf }
-        ensures trail { self.new.trail ≡ self.old.trail }
-        ensures keeper { self.new.keeper ≡ self.old.keeper }
-        ensures kept { Kept self.old self.new }
+        ensures only_shelf { OnlyShelf self.old self.new }
     {
         let to = self.belongs(node);
         if self.shelf.bucket_of(node) == to {

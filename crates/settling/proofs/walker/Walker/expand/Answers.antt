@@ -31,7 +31,8 @@ returns-clause-grown g c =
     let w₁ = c.open.new.self in
     let h = g.S.Shelf.meaning c.args.self.now.shelf in
     let put = c.put_children in
-    let same = same_rest h (g.S.Shelf.meaning put.new.self.shelf) put.ensures.kept.map put.ensures.trail (ap g.K.Keeper.meaning put.ensures.keeper) in
+    let only = put.ensures.only_shelf in
+    let same = same_rest h (g.S.Shelf.meaning put.new.self.shelf) only.kept.map only.trail (ap g.K.Keeper.meaning only.keeper) in
     subst (λ (z : Core). Grown (tree_at c.args.self.now) x (core_at c.args.self.now) z) (sym same) (record {
       d = c.in-Some.d;
       expand = record {

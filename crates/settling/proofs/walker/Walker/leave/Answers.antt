@@ -11,7 +11,7 @@ returns-then-is_some-clause-step g c =
     let t = tree_at c.args.self.now in
     let s = core_at c.args.self.now in
     let up = some_where (t.parent c.args.f.node) (search rules) in
-    let same = shelved_is c.args.self.now c.bring.new.self c.bring.ensures.kept c.bring.ensures.trail c.bring.ensures.keeper in
+    let same = shelved_is c.args.self.now c.bring.new.self c.bring.ensures.only_shelf in
     λ n fs. subst (λ (z : Core). Step n t (record { core = s; frames = c.args.f ∷ fs }) (record { core = z; frames = fs })) (sym same)
     (step_leave n t s c.args.f fs c.requires.ended (core_at c.bring.new.self).shelf up.0 up.1 c.requires.free c.bring.ensures.brought)
 

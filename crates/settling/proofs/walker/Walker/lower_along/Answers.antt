@@ -55,7 +55,7 @@ returns-then-lower-clause-link g c =
     let h = g.S.Shelf.meaning c.args.self.now.shelf in
     let lo = c.lower.ensures.done c.if-lower.true in
     let br = c.bring.ensures in
-    let same = same_rest h (g.S.Shelf.meaning c.bring.new.self.shelf) br.kept.map br.trail (ap g.K.Keeper.meaning br.keeper) in
+    let same = same_rest h (g.S.Shelf.meaning c.bring.new.self.shelf) br.only_shelf.kept.map br.only_shelf.trail (ap g.K.Keeper.meaning br.only_shelf.keeper) in
     subst (λ (z : Core). Link (net_at c.args.self.now) (tree_at c.args.self.now) c.args.v c.args.d c.args.k (core_at c.args.self.now) z) (sym same)
     (link_lower a h (g.K.Keeper.meaning c.lower.new.self) c.requires.charted.runs (g.met.K.Keeper.sized c.args.self.now.keeper)
     (core_at c.bring.new.self).shelf c.front-c.result lo.0 lo.1 c.front-c.ensures.is br.brought)

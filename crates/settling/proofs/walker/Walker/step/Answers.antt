@@ -19,7 +19,7 @@ going : (g : given.Over) (c : Else-not-goes_on g) → Going (tree_at c.args.self
 going g c = let e : c.goes_on.result ≡ true = search rules in rw e at c.goes_on.ensures
 
 same : (g : given.Over) (c : After-take_next g) → core_at c.take_next.new.self ≡ shelved (core_at c.args.self.now) (core_at c.take_next.new.self).shelf
-same g c = let r = c.take_next.ensures in shelved_is c.args.self.now c.take_next.new.self r.kept r.trail r.keeper
+same g c = shelved_is c.args.self.now c.take_next.new.self c.take_next.ensures.only_shelf
 
 pub goes_on-requires-clause-tree : goal.goes_on-requires-clause-tree
 goes_on-requires-clause-tree g c = walkable c.requires.charted
@@ -28,7 +28,7 @@ pub leave-requires-clause-tree : goal.leave-requires-clause-tree
 leave-requires-clause-tree g c = walkable c.requires.charted
 
 pub enter-requires-clause-tree : goal.enter-requires-clause-tree
-enter-requires-clause-tree g c = kept_on c.take_next.ensures.kept (λ z m. Walkable (tree_of m)) (walkable c.requires.charted)
+enter-requires-clause-tree g c = kept_on c.take_next.ensures.only_shelf.kept (λ z m. Walkable (tree_of m)) (walkable c.requires.charted)
 
 pub returns-in_default-clause-step : goal.returns-in_default-clause-step
 returns-in_default-clause-step g c =
@@ -42,7 +42,7 @@ returns-in_default-clause-step g c =
     let w' = c.rise.new.self in
     let found = c.in_default.ensures.looked in
     let lt : x < length (vec_items w₁.trail.nodes) =
-    omega (arith, c.requires.able.inner.below, c.args.self.now.nodes, c.take_next.ensures.kept.nodes, w₁.trail.nodes.ok.0) in
+    omega (arith, c.requires.able.inner.below, c.args.self.now.nodes, c.take_next.ensures.only_shelf.kept.nodes, w₁.trail.nodes.ok.0) in
     let risen = risen_is (tree_at w₁) w₁.trail w' (g.K.Keeper.meaning w₁.keeper) (g.S.Shelf.meaning w₁.shelf) x lt c.rise.ensures in
     λ fs. subst (λ (z : Core). Step net t (record { core = s; frames = c.args.f ∷ fs }) (record { core = z; frames = c.args.f ∷ fs })) (sym risen)
     (step_rise net t s c.args.f fs (going g on) (core_at w₁) (count_of w') (same g looked ∙ ap (shelved s) found.same) found (risen_count w₁.trail w' x lt c.rise.ensures))
@@ -51,7 +51,7 @@ pub returns-then-c-stations-clause-step : goal.returns-then-c-stations-clause-st
 returns-then-c-stations-clause-step g c =
     let on = (goal.at.returns-then-c-stations-clause-step g c).Else-not-goes_on in
     let looked = (goal.at.returns-then-c-stations-clause-step g c).After-take_next in
-    let kept = c.take_next.ensures.kept in
+    let kept = c.take_next.ensures.only_shelf.kept in
     let x = c.in-Some.c in
     let s₁ = core_at c.take_next.new.self in
     let s' = core_at c.visit_station.new.self in
@@ -64,7 +64,7 @@ pub returns-clause-step : goal.returns-clause-step
 returns-clause-step g c =
     let on = (goal.at.returns-clause-step g c).Else-not-goes_on in
     let looked = (goal.at.returns-clause-step g c).After-take_next in
-    let kept = c.take_next.ensures.kept in
+    let kept = c.take_next.ensures.only_shelf.kept in
     let x = c.in-Some.c in
     let s₁ = core_at c.take_next.new.self in
     let s' = core_at c.enter.new.self in
