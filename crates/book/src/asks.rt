@@ -1,4 +1,5 @@
-ghost use Rattle.std.specs.Prelude.{◌≡◌, ℕ, ◌<◌, ◌≤◌, Bool, true, false, length, MatchOption, slice_index_or};
+ghost use Rattle.std.specs.Prelude.{◌≡◌, ◌↔◌, ℕ, ◌<◌, ◌≤◌, Bool, true, false, length, IsTrue, MatchOption, slice_index_or, vec_len};
+ghost use Rattle.network.specs.Entries.{no_entry};
 ghost use Rattle.network.specs.Network.{row as row_of};
 ghost use Rattle.book.specs.Matter.{matter, links, Struck};
 
@@ -50,8 +51,15 @@ impl Book {
         ensures served { result ≡ slice_index_or (matter self.now).network.service number false }
         ensures apart { result ≡ true → Struck (matter self.now) number → ⊥ }
     {
+        self.stands(number, Standing::In)
+    }
+
+    /// Whether the book has a link of that number, and it stands so.
+    pub(crate) fn stands(&self, link: u32, standing: Standing) -> bool
+        ensures { IsTrue result ↔ (link < vec_len self.now.scheme.links) × ((slice_index_or self.now.scheme.links.items link no_entry).standing ≡ standing) }
+    {
         self.scheme
-            .entry(number as usize)
-            .is_some_and(|entry| entry.standing == Standing::In)
+            .entry(link as usize)
+            .is_some_and(|entry| entry.standing == standing)
     }
 }

@@ -15,8 +15,10 @@ impl Book {
         ensures withdrawn { Withdraws (matter self.old) link result (matter self.new) }
         ensures good { IfOk result (λ p. Good (matter self.new) p) }
     {
-        let entry = self.scheme.entry(link as usize).ok_or(Refusal::NoSuchLink)?;
-        if entry.standing != Standing::In {
+        if link >= self.links() {
+            return Err(Refusal::NoSuchLink);
+        }
+        if !self.in_service(link) {
             return Err(Refusal::NotInService);
         }
         self.stand(link, Standing::Out);
@@ -31,9 +33,7 @@ impl Book {
     fn is_out(&self, link: u32) -> bool
         ensures { IsTrue result ↔ Out (matter self.now) link }
     {
-        self.scheme
-            .entry(link as usize)
-            .is_some_and(|entry| entry.standing == Standing::Out)
+        self.stands(link, Standing::Out)
     }
 
     /// The permit, where giving it back would do, or the refusal with it.

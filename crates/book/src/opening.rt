@@ -62,7 +62,7 @@ impl Book {
     ) -> Result<(), Refusal>
         ensures { Opens (matter self.old) number stations rows.now result (matter self.new) }
     {
-        if stations == 0 || stations > 512 {
+        if !(1..=512).contains(&stations) {
             return Err(Refusal::Stations);
         }
         if rows.len() > 2048 {

@@ -27,7 +27,7 @@ pub enum Refusal {
     NoMap,
     /// nothing is settled
     NothingSettled,
-    /// memory was wanting, which only making a place and opening can meet
+    /// memory was wanting, which only opening can meet
     NoMemory,
 }
 
