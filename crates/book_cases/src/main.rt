@@ -9,6 +9,7 @@ use network::row::Row;
 use std::alloc::Global;
 
 /// The number of a refusal in the table of causes.
+// Kept: a number at once, since a refusal with a permit must be taken apart, and its permit ended, before its case is told.
 #[derive(Clone, Copy)]
 struct Cause(u8);
 

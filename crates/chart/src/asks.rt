@@ -34,7 +34,9 @@ impl Chart {
         self.scheme = scheme;
     }
 
-    /// Puts a link into service or takes it out of it; no map stands then. Past the last link nothing changes.
+    /// Puts a link into service or takes it out of it; no map stands then. Past the last link nothing changes. A link that was struck
+    /// is set too, since that a struck link stays out is the book's rule.
+    // Kept: the public call says in service or not; `Standing` is how a scheme notes it.
     pub fn serve(&mut self, link: usize, up: bool)
         ensures { Served self.old link up self.new }
     {
