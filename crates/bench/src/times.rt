@@ -13,16 +13,17 @@ use std::time::Instant;
 const MANY: u32 = 100000;
 
 fn time_shelf<S: Shelf>(rt: &HostRuntime, name: &str, shelf: &mut S) -> io::Result<()> {
-    let items = shelf.items();
     let mut random = Random::new(7);
     let start = Instant::now(rt)?;
     let seen = drive_shelf(shelf, MANY, &mut random);
     let micros = start.elapsed(rt)?.as_micros();
-    println!(rt; "{name:8} {items:6} items: {MANY} puts, takes and lifts in {micros:8} us ({seen})")
+    println!(rt;
+        "{name:8} {:6} items: {MANY} puts, takes and lifts in {micros:8} us ({seen})",
+        shelf.items()
+    )
 }
 
 fn time_keeper<K: Keeper>(rt: &HostRuntime, name: &str, keeper: &mut K) -> io::Result<()> {
-    let places = keeper.places();
     let mut random = Random::new(7);
     let start = Instant::now(rt)?;
     let lowered = drive_keeper(keeper, MANY, &mut random);
@@ -31,7 +32,8 @@ fn time_keeper<K: Keeper>(rt: &HostRuntime, name: &str, keeper: &mut K) -> io::R
     let seen = ask_keeper(keeper, MANY, &mut random);
     let leasts = again.elapsed(rt)?.as_micros();
     println!(rt;
-        "{name:8} {places:6} places: {MANY} lowers and retires in {changes:8} us, {MANY} leasts in {leasts:8} us ({lowered}, {seen})"
+        "{name:8} {:6} places: {MANY} lowers and retires in {changes:8} us, {MANY} leasts in {leasts:8} us ({lowered}, {seen})",
+        keeper.places()
     )
 }
 

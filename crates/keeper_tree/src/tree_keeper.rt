@@ -78,7 +78,7 @@ impl Keeper for Tree {
         // Kept: a `while`, since both ends of a row are halved on the way up and none is counted.
         while low < high {
             best = lesser(best, lesser(nodes[low], nodes[high - 1]));
-            low = (low + 1) / 2;
+            low = low.div_ceil(2);
             high /= 2;
         }
         best

@@ -63,7 +63,7 @@ impl Shelf for Chains {
     }
 
     fn clear(&mut self) {
-        // Kept: a loop over item numbers. A reset of the nodes would take time for each bucket too.
+        // Kept: item numbers, as `lift` wants them; resetting the ring by `fill` would make clear grow with the buckets too.
         for item in 0..self.items() {
             self.lift(item);
         }

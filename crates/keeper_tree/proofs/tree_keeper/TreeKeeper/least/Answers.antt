@@ -19,10 +19,12 @@ loop-low-preserved c =
     let lt = c.loop-low-test.true in
     let one = c.loop-low.invariant.0 lt in
     let top = c.loop-low.invariant.1 in
-    let taken : c.lesser-best.result ≡ lesser_of best (lesser_of (f low) (f (high - 1))) = cc in (
+    let taken : c.lesser-best.result ≡ lesser_of best (lesser_of (f low) (f (high - 1))) = cc in
+    let half : c.div_ceil-low.result ≡ (low + 1) / 2 = omega (arith, c.div_ceil-low.ensures) in (
       λ _. omega arith,
       omega arith,
-      ap (λ (x : Option ℕ). lesser_of x (row f ((low + 1) / 2) (high / 2))) taken ∙ climb s.places f over best low high one lt top ∙ c.loop-low.invariant.2,
+      ap (λ (x : ℕ). lesser_of c.lesser-best.result (row f x (high / 2))) half
+          ∙ ap (λ (x : Option ℕ). lesser_of x (row f ((low + 1) / 2) (high / 2))) taken ∙ climb s.places f over best low high one lt top ∙ c.loop-low.invariant.2,
     )
 
 pub returns : goal.returns
