@@ -24,7 +24,11 @@ fn print_links(rt: &HostRuntime, book: &Book) -> anyhow::Result<()> {
         let Some(link) = book.link(number) else {
             break;
         };
-        let state = if book.in_service(number) { "in" } else { "off" };
+        let state = if book.in_service(number) {
+            State::In
+        } else {
+            State::Off
+        };
         println!(rt;
             "{number};{};{};{};{};{state}",
             link.from(),

@@ -40,11 +40,8 @@ impl<'a> Cursor<'a> {
     fn due_line(&mut self, role: Role) -> Result<Content<'a>, Fault>
         ensures { MatchResult result (λ content. IsNext self.old content × Moved self.old self.new) (λ f. NextFault self.old Never f) }
     {
-        let past = self.line + 1;
-        let Some(found) = self.next_content(role) else {
-            return Err(Cause::InTable(TableFault::LineDue).at(past, 1));
-        };
-        found
+        let missing = Cause::InTable(TableFault::LineDue).at(self.line + 1, 1);
+        self.next_content(role).ok_or(missing)?
     }
 
     /// Reads the next line as the names of a table.

@@ -14,10 +14,11 @@ pub enum Stop {
 fn is_stop(byte: u8, stop: Stop) -> bool
     ensures { result ≡ (byte == stop_byte stop) }
 {
-    matches!(
-        (Kind::from(byte), stop),
-        (Kind::Separator, Stop::AtSeparator) | (Kind::LineFeed, Stop::AtLineFeed)
-    )
+    let kind = match stop {
+        Stop::AtSeparator => Kind::Separator,
+        Stop::AtLineFeed => Kind::LineFeed,
+    };
+    Kind::from(byte) == kind
 }
 
 /// The place of the first stop.

@@ -154,6 +154,7 @@ impl Cause {
 
 impl Layer {
     /// How a layer is spelled.
+    // Kept: this spelling is a public promise of its own, which `Display` writes.
     pub fn spelling(self) -> &'static str
         ensures { result.now ≡ spelled self }
     {
@@ -180,10 +181,11 @@ impl fmt::Display for Fault {
     ghost output = { λ fault. Some (fault_text fault) };
 
     fn fmt<W: fmt::Write>(&self, f: &mut fmt::Formatter<W>) -> fmt::Result {
-        let number = self.cause.number();
-        let layer = self.cause.layer();
-        let line = self.line;
-        let column = self.column;
-        write!(f, "{number};{layer};{line};{column}")
+        let Fault {
+            cause,
+            line,
+            column,
+        } = *self;
+        write!(f, "{};{};{line};{column}", cause.number(), cause.layer())
     }
 }

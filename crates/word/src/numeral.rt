@@ -19,10 +19,7 @@ pub fn number(word: &[u8]) -> Result<u32, WordFault>
                 return Err(WordFault::NotANumber);
             };
             let n = digits(lead, rest)?;
-            if n > u64::from(u32::MAX) {
-                return Err(WordFault::TooLarge);
-            }
-            Ok(n as u32)
+            u32::try_from(n).or(Err(WordFault::TooLarge))
         }
     }
 }

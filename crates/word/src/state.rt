@@ -1,6 +1,8 @@
-ghost use Rattle.word.specs.States.{ReadsState};
+ghost use Rattle.std.specs.Prelude.{Some};
+ghost use Rattle.word.specs.States.{ReadsState, spelled_state};
 
 use super::fault::WordFault;
+use std::fmt;
 
 /// Whether a link is in service at the opening, or out for good.
 #[derive(Clone, Copy, Debug, Default, PartialEq, Eq)]
@@ -23,5 +25,17 @@ impl TryFrom<&[u8]> for State {
             b"off" => Ok(State::Off),
             _ => Err(WordFault::BadState),
         }
+    }
+}
+
+/// A state is written as its word.
+impl fmt::Display for State {
+    ghost output = { λ state. Some (spelled_state state) };
+
+    fn fmt<W: fmt::Write>(&self, f: &mut fmt::Formatter<W>) -> fmt::Result {
+        f.write_str(match self {
+            State::In => "in",
+            State::Off => "off",
+        })
     }
 }
