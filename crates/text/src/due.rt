@@ -16,10 +16,13 @@ use word::fault::{Cause, Fault, TableFault};
 
 impl<'a> Cursor<'a> {
     /// The next line, if the text has another: it must not be empty.
-    pub(crate) fn next_content(&mut self, role: Role) -> Option<Result<Content<'a>, Fault>>
-        ensures { MatchOption result (length (lines (text_of self.old)) ≤ self.old.line) (λ o. MatchResult o (λ content. IsNext self.old content × Moved self.old self.new) (λ f. NoneDue self.old f)) }
+    pub(crate) fn next_content(&mut self, role: Role) -> Result<Option<Content<'a>>, Fault>
+        ensures { MatchResult result (λ o. MatchOption o (length (lines (text_of self.old)) ≤ self.old.line) (λ content. IsNext self.old content × Moved self.old self.new)) (λ f. NoneDue self.old f) }
     {
-        match self.next_line(role)? {
+        let Some(line) = self.next_line(role) else {
+            return Ok(None);
+        };
+        match line {
             Line::Names {
                 bytes,
                 line: number,
@@ -29,9 +32,9 @@ impl<'a> Cursor<'a> {
                 bytes,
                 line: number,
                 ..
-            } => Some(Ok(Content { bytes, number })),
+            } => Ok(Some(Content { bytes, number })),
             Line::Divider { line, column, .. } => {
-                Some(Err(Cause::InTable(TableFault::LineDue).at(line, column)))
+                Err(Cause::InTable(TableFault::LineDue).at(line, column))
             }
         }
     }
@@ -41,7 +44,7 @@ impl<'a> Cursor<'a> {
         ensures { MatchResult result (λ content. IsNext self.old content × Moved self.old self.new) (λ f. NextFault self.old Never f) }
     {
         let missing = Cause::InTable(TableFault::LineDue).at(self.line + 1, 1);
-        self.next_content(role).ok_or(missing)?
+        self.next_content(role)?.ok_or(missing)
     }
 
     /// Reads the next line as the names of a table.

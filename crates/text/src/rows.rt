@@ -57,16 +57,16 @@ impl Cursor<'_> {
     ghost use Rattle.text.specs.Sheet.{SpelledLink, RowFault, RowsRead, RowsEnd};
 
     /// The next line of links, if the text has another line: it must not be empty.
-    fn next_row(&mut self, places: LinkPlaces, full: bool) -> Option<Result<SheetLink, Fault>>
-        ensures { MatchOption result (length (lines (text_of self.old)) ≤ self.old.line) (λ o. MatchResult o
-            (λ link. NextStands self.old × (full ≡ false) × SpelledLink places.places (words (next self.old)) link × Moved self.old self.new)
-            (λ f. AtLine self.old.line f (RowFault (text_of self.old) places.places (full ≡ true) self.old.line))) }
+    fn next_row(&mut self, places: LinkPlaces, full: bool) -> Result<Option<SheetLink>, Fault>
+        ensures { MatchResult result
+            (λ o. MatchOption o (length (lines (text_of self.old)) ≤ self.old.line) (λ link. NextStands self.old × (full ≡ false) × SpelledLink places.places (words (next self.old)) link × Moved self.old self.new))
+            (λ f. AtLine self.old.line f (RowFault (text_of self.old) places.places (full ≡ true) self.old.line)) }
     {
-        // Kept: a match, since with `and_then` the closure would need the line's facts in clauses of its own.
-        match self.next_content(Role::AsValues)? {
-            Ok(line) => Some(places.read_row(&line, full)),
-            Err(fault) => Some(Err(fault)),
-        }
+        let Some(line) = self.next_content(Role::AsValues)? else {
+            return Ok(None);
+        };
+        let link = places.read_row(&line, full)?;
+        Ok(Some(link))
     }
 
     /// Reads lines of links to the text's end, into the memory given, and counts them.
@@ -82,8 +82,8 @@ impl Cursor<'_> {
         ensures end { RowsEnd (text_of self.old) places.places links.old count.new result }
     {
         let most = links.len().min(2048);
-        while let Some(row) = self.next_row(places, *count == most) {
-            links[*count] = row?;
+        while let Some(link) = self.next_row(places, *count == most)? {
+            links[*count] = link;
             *count += 1;
         }
         Ok(())

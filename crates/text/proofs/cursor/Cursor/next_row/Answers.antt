@@ -1,13 +1,14 @@
 use Rattle.std.proofs.Common.{◌≡◌, ℕ, List, true, ◌∙◌, subst}
-use Rattle.std.proofs.lemmas.Result.{MatchResult-at_ok, MatchResult-weaker}
-use Rattle.text.specs.Split.{words}
-use Rattle.text.specs.Sheet.{SpelledLink, WrongRow, wrong}
+use Rattle.std.proofs.lemmas.Option.{MatchOption-at_some}
+use Rattle.std.proofs.lemmas.Result.{err_from_is_err_and}
+use Rattle.text.specs.Sheet.{WrongRow, wrong}
 use Rattle.text.proofs.cursor.Cursor.next_row.Goals as goal
 
-pub returns-in-Ok : goal.returns-in-Ok
-returns-in-Ok c =
-    let told = MatchResult-at_ok _ _ c.in-Ok.line c.in-Ok.is c.in_ok-line.ensures in
-    let places = c.args.places.places in
-    MatchResult-weaker c.read_row.result c.read_row.ensures
-    (λ link read. (told.0.stands, read.0, subst (λ (bytes : List ℕ). SpelledLink places (words bytes) link) told.0.bytes read.1, told.1))
-    (λ f found. (found.0 ∙ told.0.number, wrong told.0.stands (subst (λ (bytes : List ℕ). WrongRow places (c.args.full ≡ true) bytes f.cause f.column) told.0.bytes found.1)))
+pub returns-in_err-link : goal.returns-in_err-link
+returns-in_err-link c =
+    let p = err_from_is_err_and c.from_residual-in_err-link.result c.from_residual-in_err-link.ensures.1 in
+    let fault = c.in_err-link.field-0.0 in
+    let told = MatchOption-at_some _ _ c.in-Some.line c.in-Some.is c.in_ok-line.ensures in
+    let found = c.in_err-link.ensures in
+    let bad = subst (λ (bytes : List ℕ). WrongRow c.args.places.places (c.args.full ≡ true) bytes fault.cause fault.column) told.0.bytes found.1 in
+    rw (p.1, p.2) (found.0 ∙ told.0.number, wrong told.0.stands bad)
