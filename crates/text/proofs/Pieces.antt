@@ -1,5 +1,5 @@
 -- Where the next piece begins, for words in a line and for lines in a text.
-use Rattle.std.proofs.Common.{◌≡◌, ℕ, zero, suc, ◌+◌, ◌-◌, ◌<◌, ◌≤◌, min, Bool, true, false, cond, eqb, List, [], ◌∷◌, ◌++◌, length, get_or, drop, sym, refl, ap, ◌∙◌, arith, length-drop, take-append-drop, eq-eqb, ne_eqb, eqb-true, Some, None}
+use Rattle.std.proofs.Common.{◌≡◌, ℕ, zero, suc, ◌+◌, ◌-◌, ◌<◌, ◌≤◌, min, Bool, true, false, cond, eqb, List, [], ◌∷◌, ◌++◌, length, get_or, drop, sym, refl, ap, ◌∙◌, subst, arith, length-drop, take-append-drop, eq-eqb, ne_eqb, eqb-true, Some, None}
 use native.Mathlib.Decide.{dec_lt}
 use Rattle.std.proofs.lemmas.List.{get_or-drop, drop-drop, drop_more, append-nil, drop_all}
 use Rattle.std.proofs.lemmas.List.Edits.{length-between, get_or-between}
@@ -10,7 +10,9 @@ use Rattle.std.proofs.lemmas.Grind.{common_steps}
 use Rattle.std.proofs.Math.Bool.{not}
 use Rattle.std.specs.List.{between, count_by, position, position_or_len}
 use Rattle.word.specs.Bytes.{separator, line_feed}
-use Rattle.text.specs.Split.{Free, Ends, pieces, onto, words, lines, column_of, WordAt, LineAt}
+use Rattle.text.specs.Split.{Free, Ends, pieces, onto, words, lines, column_of, WordAt, LineAt, stop_byte, pieces_at, PieceAt}
+use Rattle.text.specs.declared.split.Stop.{Stop}
+use Rattle.text.specs.declared.split.Stop.TheVariants.{AtSeparator, AtLineFeed}
 
 free_from : (stop : ℕ) (bs : List ℕ) → ((k : ℕ) → k < length bs → eqb (get_or bs k 0) stop ≡ false) → Free stop bs
 free_from stop [] h = tt
@@ -232,3 +234,20 @@ lines_few (b ∷ bs) = go (eqb b line_feed) (lines bs) (lines_few bs)
     go true ls h = omega arith
     go false [] h = omega arith
     go false (l ∷ ls) h = omega arith
+
+-- the first piece begins with the bytes
+pub piece_first : (stop : Stop) (bytes : List ℕ) → PieceAt stop bytes 0 0
+piece_first AtSeparator bytes = record { within = omega arith; left = refl; column = refl }
+piece_first AtLineFeed bytes = record { within = omega arith; few = omega arith; listed = omega arith; left = refl }
+
+pub piece_within : (stop : Stop) (bytes : List ℕ) (j start : ℕ) → PieceAt stop bytes j start → start ≤ length bytes
+piece_within AtSeparator bytes j start at = at.within
+piece_within AtLineFeed bytes j start at = at.within
+
+-- another piece begins behind the stop that ends the piece j
+pub piece_next : (stop : Stop) (bytes : List ℕ) (j start e : ℕ) → PieceAt stop bytes j start → Ends (stop_byte stop) bytes start e
+    → j + 1 < length (pieces_at stop bytes) → PieceAt stop bytes (j + 1) (min (e + 1) (length bytes))
+piece_next AtSeparator bytes j start e at ends more =
+    let behind : e + 1 ≡ min (e + 1) (length bytes) = omega (arith, more_follows at ends more) in
+    subst (λ (n : ℕ). WordAt bytes (j + 1) n) behind (word_next at ends more)
+piece_next AtLineFeed bytes j start e at ends more = line_next at ends (line_some at (omega arith))

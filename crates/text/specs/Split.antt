@@ -58,3 +58,13 @@ pub record LineAt (text : List ℕ) (i start : ℕ) : Type 0 where
   pub few : i ≤ start
   pub listed : i ≤ length (lines text)
   pub left : lines (drop start text) ≡ drop i (lines text)
+
+-- the pieces that a stop ends
+abbrev pub pieces_at : Stop → List ℕ → List (List ℕ)
+pieces_at AtSeparator = words
+pieces_at AtLineFeed = lines
+
+-- the piece j begins at `start`
+abbrev pub PieceAt : Stop → List ℕ → ℕ → ℕ → Type 0
+PieceAt AtSeparator = WordAt
+PieceAt AtLineFeed = LineAt

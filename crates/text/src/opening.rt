@@ -10,7 +10,7 @@ use super::heading::Heading;
 use super::names::Places;
 use super::sheet::SheetLink;
 use super::source::Source;
-use super::split::{Stop, piece_end};
+use super::split::{Stop, piece_end, piece_start};
 use network::link::Link;
 use network::refusal::RowRefusal;
 use word::fault::{BookFault, Cause, Fault};
@@ -36,10 +36,7 @@ impl<'a> Source<'a> {
         requires { i < length (lines self.now.bytes.now) }
         ensures { (result.bytes.now ≡ line_of self.now.bytes.now i) × (result.number ≡ i + 1) }
     {
-        let mut start = 0;
-        for _ in 0..i {
-            start = (piece_end(self.bytes, start, Stop::AtLineFeed) + 1).min(self.bytes.len());
-        }
+        let start = piece_start(self.bytes, i, Stop::AtLineFeed);
         let end = piece_end(self.bytes, start, Stop::AtLineFeed);
         Content {
             bytes: &self.bytes[start..end],

@@ -1,5 +1,5 @@
-ghost use Rattle.std.specs.Prelude.{◌≡◌, ◌≤◌, length, ◌==◌, count_by, position};
-ghost use Rattle.text.specs.Split.{stop_byte, Ends};
+ghost use Rattle.std.specs.Prelude.{◌≡◌, ◌<◌, ◌≤◌, length, ◌==◌, count_by, position};
+ghost use Rattle.text.specs.Split.{stop_byte, pieces_at, PieceAt, Ends};
 
 use word::byte::Kind;
 
@@ -45,4 +45,16 @@ pub(crate) fn piece_end(bytes: &[u8], start: usize, stop: Stop) -> usize
         Some(long) => start + long,
         None => bytes.len(),
     }
+}
+
+/// Where the piece `j` of the bytes begins.
+pub(crate) fn piece_start(bytes: &[u8], j: usize, stop: Stop) -> usize
+    requires { j < length (pieces_at stop bytes.now) }
+    ensures { PieceAt stop bytes.now j result }
+{
+    let mut start = 0;
+    for _ in 0..j {
+        start = (piece_end(bytes, start, stop) + 1).min(bytes.len());
+    }
+    start
 }

@@ -1,8 +1,8 @@
 ghost use Rattle.std.specs.Prelude.{◌≡◌, ℕ, ◌+◌, ◌<◌, ◌≤◌, [], length, slice_index_or};
-ghost use Rattle.text.specs.Split.{words, column_of, WordAt};
+ghost use Rattle.text.specs.Split.{words, column_of};
 
 use super::content::Content;
-use super::split::{Stop, count_stops, piece_end};
+use super::split::{Stop, count_stops, piece_end, piece_start};
 
 /// A word of a line, which borrows its bytes, and its column: the place of its first byte, counted from 1.
 #[derive(Clone, Copy, Debug, PartialEq, Eq)]
@@ -19,25 +19,13 @@ impl<'a> Content<'a> {
         count_stops(self.bytes, Stop::AtSeparator) + 1
     }
 
-    /// Where the word `j` of the line begins.
-    fn word_start(&self, j: usize) -> usize
-        requires { j < length (words self.now.bytes.now) }
-        ensures { WordAt self.now.bytes.now j result }
-    {
-        let mut start = 0;
-        for _ in 0..j {
-            start = piece_end(self.bytes, start, Stop::AtSeparator) + 1;
-        }
-        start
-    }
-
     /// The word `j` of the line.
     pub(crate) fn word(&self, j: usize) -> Word<'a>
         requires { j < length (words self.now.bytes.now) }
         ensures bytes { result.bytes.now ≡ slice_index_or (words self.now.bytes.now) j [] }
         ensures column { result.column ≡ column_of (words self.now.bytes.now) j }
     {
-        let start = self.word_start(j);
+        let start = piece_start(self.bytes, j, Stop::AtSeparator);
         let end = piece_end(self.bytes, start, Stop::AtSeparator);
         Word {
             bytes: &self.bytes[start..end],
