@@ -1,5 +1,5 @@
 -- Where the next piece begins, for words in a line and for lines in a text.
-use Rattle.std.proofs.Common.{◌≡◌, ℕ, zero, suc, ◌+◌, ◌-◌, ◌<◌, ◌≤◌, min, Bool, true, false, cond, eqb, List, [], ◌∷◌, ◌++◌, length, get_or, drop, sym, refl, ap, ◌∙◌, subst, arith, length-drop, take-append-drop, eq-eqb, ne_eqb, eqb-true, Some, None}
+use Rattle.std.proofs.Common.{◌≡◌, ℕ, zero, suc, ◌+◌, ◌-◌, ◌<◌, ◌≤◌, min, Bool, true, false, cond, eqb, List, [], ◌∷◌, ◌++◌, length, get_or, drop, sym, refl, ap, ◌∙◌, subst, arith, length-drop, take-append-drop, eq-eqb, ne_eqb, eqb-true, Option, Some, None, unwrap_or}
 use native.Mathlib.Decide.{dec_lt}
 use Rattle.std.proofs.lemmas.List.{get_or-drop, drop-drop, drop_more, append-nil, drop_all}
 use Rattle.std.proofs.lemmas.List.Edits.{length-between, get_or-between}
@@ -38,20 +38,24 @@ ends_first stop bytes start e l q =
     }
 
 -- the same as a search from the left tells it
-pub ends_found : (stop : ℕ) (bytes : List ℕ) (start n : ℕ) → start ≤ length bytes → position (λ b. eqb b stop) (drop start bytes) ≡ Some n → Ends stop bytes start (start + n)
-ends_found stop bytes start n l e =
+ends_told : (stop : ℕ) (bytes : List ℕ) (start : ℕ) (o : Option ℕ) → start ≤ length bytes → position (λ b. eqb b stop) (drop start bytes) ≡ o
+    → Ends stop bytes start (start + unwrap_or o (length (drop start bytes)))
+ends_told stop bytes start (Some n) l e =
     let is_stop : ℕ → Bool = λ b. eqb b stop in
     let rest = drop start bytes in
-    let at : position_or_len is_stop rest ≡ n = grind (arith, common_steps) in
-    ends_first stop bytes start (start + n) l (ap (λ (k : ℕ). start + k) (sym at))
-
-pub ends_missing : (stop : ℕ) (bytes : List ℕ) (start : ℕ) → start ≤ length bytes → position (λ b. eqb b stop) (drop start bytes) ≡ None → Ends stop bytes start (length bytes)
-ends_missing stop bytes start l e =
+    let at : n ≡ position_or_len is_stop rest = grind (arith, common_steps) in
+    ends_first stop bytes start (start + n) l (ap (λ (k : ℕ). start + k) at)
+ends_told stop bytes start None l e =
     let is_stop : ℕ → Bool = λ b. eqb b stop in
     let rest = drop start bytes in
     let most : position_or_len is_stop rest ≤ length rest = prefix_len-le-length (λ b. not (is_stop b)) rest in
     let all : length rest ≤ position_or_len is_stop rest = grind (arith, common_steps) in
-    ends_first stop bytes start (length bytes) l (omega (arith, length-drop start bytes))
+    ends_first stop bytes start (start + length rest) l (omega arith)
+
+pub ends_at : (stop : ℕ) (bytes : List ℕ) (start n : ℕ) → start ≤ length bytes → n ≡ unwrap_or (position (λ b. eqb b stop) (drop start bytes)) (length (drop start bytes))
+    → Ends stop bytes start (start + n)
+ends_at stop bytes start n l e =
+    subst (λ (k : ℕ). Ends stop bytes start (start + k)) (sym e) (ends_told stop bytes start (position (λ b. eqb b stop) (drop start bytes)) l refl)
 
 -- up to a stop, then the stop: a piece, and the pieces after it
 pub pieces_cut : (stop : ℕ) (end : List (List ℕ)) (s t : List ℕ) → Free stop s → pieces stop end (s ++ (stop ∷ t)) ≡ s ∷ pieces stop end t

@@ -40,11 +40,8 @@ pub(crate) fn piece_end(bytes: &[u8], start: usize, stop: Stop) -> usize
     requires { start ≤ length bytes.now }
     ensures { Ends (stop_byte stop) bytes.now start result }
 {
-    // Kept: a match, which shows the two ends and is no longer than `map_or` with a closure.
-    match first_stop(&bytes[start..], stop) {
-        Some(long) => start + long,
-        None => bytes.len(),
-    }
+    let rest = &bytes[start..];
+    start + first_stop(rest, stop).unwrap_or(rest.len())
 }
 
 /// Where the piece `j` of the bytes begins.
