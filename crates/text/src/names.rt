@@ -9,10 +9,11 @@ use word::fault::{Cause, Fault, LineFault, WordFault};
 
 /// Which word of a line stands under each name of its table, the names in the order of their definition; the rest of the four
 /// are not used.
+// Kept: a table stands beside its places, since in one struct the places of links would have a table that is never another.
 pub type Places = [usize; 4];
 
 /// In the place of a name that has not come yet.
-// Kept: with an `Option` for each place, the columns that the book's table has not would still get a made-up place at the end.
+// Kept: an `Option` for each place would have to be unwrapped at the end, also for columns that the table has not.
 const NOWHERE: usize = 4;
 
 /// The column of the table that a word of its line of names names, for the first time.
@@ -53,7 +54,7 @@ impl Content<'_> {
     {
         self.check_count(table.width())?;
         let mut places = [NOWHERE; 4];
-        // Kept: a word is looked up by its number, as for a fault's column; an iterator would be a second way to find words.
+        // Kept: words by number, since the library's `split` gives the words without their columns.
         for j in 0..table.width() {
             let word = self.word(j);
             // Kept: a match, since with `map_err` and a closure the goals of what is returned do not close.

@@ -20,7 +20,7 @@ pub fn read_sheet(text: &[u8], links: &mut [SheetLink]) -> Reading
 }
 
 /// Reads a sheet's tables, counts the links that were read, and checks what the book asks of them.
-// Kept: the links go into memory that the caller lends, so their count stands beside it.
+// Kept: a count beside the links, since a fault must leave it standing: an `Err` drops all that a value would hold.
 fn read_tables(text: &[u8], links: &mut [SheetLink], count: &mut usize) -> Result<Head, Fault>
     requires { count.old ≡ 0 }
     ensures { ReadAs text.now links.old links.new (record { links = count.new; outcome = result }) }

@@ -15,6 +15,7 @@ use word::state::State;
 #[derive(Clone, Copy, Debug, Default, PartialEq, Eq)]
 pub struct Values {
     pub numbers: [u32; 4],
+    // Kept: a table without states has the default here; an `Option` would be unwrapped for each link, which always has a state.
     pub state: State,
 }
 
@@ -57,7 +58,7 @@ impl Content<'_> {
         self.check_count(table.width())?;
         let state_at = table.state_at(places);
         let mut values = Values::default();
-        // Kept: a word is looked up by its number, as for a fault's column; an iterator would be a second way to find words.
+        // Kept: words by number, since the library's `split` gives the words without their columns.
         for j in 0..table.width() {
             let word = self.word(j);
             // Kept: a test, since with `map_err` and a closure the goals of what is returned do not close.
