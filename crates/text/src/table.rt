@@ -22,6 +22,7 @@ impl Table {
     }
 
     /// Which of the table's columns, in the order of their definition, has this name.
+    // Kept: patterns, since for `position` in a list of the names the proof did not close.
     pub(crate) fn column_named(self, word: &[u8]) -> Option<usize>
         ensures { MatchOption result (Named self word.now → ⊥) (λ i. (i < width self) × (slice_index_or (names self) i [] ≡ word.now)) }
     {
