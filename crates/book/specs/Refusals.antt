@@ -1,6 +1,6 @@
--- The refusals of a book: for each case its number in the table of causes, and what comes back with it.
-use Rattle.std.specs.Prelude.{ℕ, Some, None, Option}
-use Rattle.network.specs.Refusals.{shown}
+-- The refusals of a book: for each case its number in the table of causes, what comes back with it, and how it is said.
+use Rattle.std.specs.Prelude.{ℕ, Some, None, Option, List, codes}
+use Rattle.network.specs.Refusals.{shown, said as row_said}
 use Rattle.network.specs.declared.row.Row.{Row}
 use Rattle.book.specs.declared.permit.Permit.{Permit}
 use Rattle.book.specs.declared.refusal.Refusal.{Refusal}
@@ -44,3 +44,14 @@ number_of e = (told e).number
 
 abbrev pub permit_number : PermitRefusal → ℕ
 permit_number e = (permit_told e).number
+
+abbrev pub said : Refusal → List ℕ
+said Stations = codes "there are no stations, or more than 512"
+said TooManyRows = codes "there are more than 2,048 rows"
+said (BadRow refusal) = row_said refusal
+said NoSuchLink = codes "the book has no link of that number"
+said NotInService = codes "the link is not in service"
+said MapStands = codes "the book has its map already"
+said NoMap = codes "the book has no map"
+said NothingSettled = codes "nothing is settled"
+said NoMemory = codes "memory was wanting"

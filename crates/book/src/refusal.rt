@@ -1,5 +1,5 @@
-ghost use Rattle.std.specs.Prelude.{◌≡◌};
-ghost use Rattle.book.specs.Refusals.{number_of, permit_number, permit_back};
+ghost use Rattle.std.specs.Prelude.{◌≡◌, Some};
+ghost use Rattle.book.specs.Refusals.{said, number_of, permit_number, permit_back};
 ghost use Rattle.book.specs.declared.refusal.Refusal.TheVariants.{BadRow, NoMemory};
 
 use super::permit::Permit;
@@ -87,7 +87,10 @@ impl PermitRefusal {
     }
 }
 
+/// A refusal is said in plain words.
 impl fmt::Display for Refusal {
+    ghost output = { λ refusal. Some (said refusal) };
+
     fn fmt<W: fmt::Write>(&self, f: &mut fmt::Formatter<W>) -> fmt::Result {
         match self {
             Refusal::Stations => f.write_str("there are no stations, or more than 512"),

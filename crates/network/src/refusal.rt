@@ -1,5 +1,5 @@
-ghost use Rattle.std.specs.Prelude.{◌≡◌};
-ghost use Rattle.network.specs.Refusals.{shown};
+ghost use Rattle.std.specs.Prelude.{◌≡◌, Some};
+ghost use Rattle.network.specs.Refusals.{said, shown};
 
 use super::row::Row;
 use std::error::Error;
@@ -40,7 +40,10 @@ impl RowRefusal {
     }
 }
 
+/// A refusal is said in plain words.
 impl fmt::Display for RowRefusal {
+    ghost output = { λ refusal. Some (said refusal) };
+
     fn fmt<W: fmt::Write>(&self, f: &mut fmt::Formatter<W>) -> fmt::Result {
         f.write_str(match self {
             RowRefusal::EndOutside(_) => "an end is no station",
