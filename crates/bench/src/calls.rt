@@ -27,7 +27,7 @@ pub(crate) fn drive_shelf<S: Shelf>(shelf: &mut S, many: u32, random: &mut Rando
 /// Lowers and retires places of a keeper at random, and answers how many were lowered.
 pub(crate) fn drive_keeper<K: Keeper>(keeper: &mut K, many: u32, random: &mut Random) -> u32 {
     let places = keeper.places();
-    // Kept: a loop, since a closure of `filter` would end its first branch in `false`; by it 100,000 changes of the table took 1,101 us and not 1,046.
+    // Kept: a loop, since a closure of `filter` would end its first branch in `false`, which is no answer.
     let mut lowered = 0u32;
     for _ in 0..many {
         let place = random.below(places);

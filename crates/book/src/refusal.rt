@@ -44,7 +44,7 @@ pub enum PermitRefusal {
 
 impl Refusal {
     /// The number of the refusal in the table of causes; want of memory has 0.
-    // Kept: the numbers are the table's own and are printed; a case that holds a row has no number to be cast to.
+    // Kept: the numbers are the table's own and are printed; a case that holds a row's refusal has no number to be cast to.
     pub fn number(self) -> u8
         ensures { result ≡ number_of self }
     {
@@ -88,6 +88,7 @@ impl PermitRefusal {
 }
 
 /// A refusal is said in plain words.
+// Kept: written by hand, since it states its bytes, which a derived error does not.
 impl fmt::Display for Refusal {
     ghost output = { λ refusal. Some (said refusal) };
 

@@ -36,7 +36,7 @@ impl Chart {
 
     /// Puts a link into service or takes it out of it; no map stands then. Past the last link nothing changes. A link that was struck
     /// is set too, since that a struck link stays out is the book's rule.
-    // Kept: the public call says in service or not; `Standing` is how a scheme notes it.
+    // Kept: a bool, since a `Standing` would let a caller strike a link here, which is the book's call.
     pub fn serve(&mut self, link: usize, up: bool)
         ensures { Served self.old link up self.new }
     {

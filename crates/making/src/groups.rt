@@ -55,7 +55,7 @@ impl Groups {
         ensures { Grown (network_of scheme.now) (Small (network_of scheme.now) 0) self.new }
     {
         self.members.clear();
-        // Kept: a push into reserved room cannot fail, while `extend` may ask for memory.
+        // Kept: a push into reserved room cannot fail, while `extend` may ask for memory, and nothing is asked for after the making of the room.
         for station in 0..scheme.stations {
             self.members.push_reserved(Member {
                 label: station,

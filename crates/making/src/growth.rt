@@ -27,8 +27,9 @@ impl Growth {
         })
     }
 
-    // Kept: `Few` is asked here and below until it is proved of every scheme (a tree has fewer than 2n nodes).
-    // Kept: `first` stands beside `Numbered`, which tells of the nodes after the stations; a number of a level with its bound would be unwrapped at each use.
+    // Kept: `Few` is asked in this crate until it is proved of every scheme (a tree has fewer than 2n nodes).
+    // Kept: `low` is asked where a level is passed: a type for a level with its bound would be unwrapped at each use.
+    // Kept: `first` beside `Numbered`: it tells of the stations, `Numbered` of the nodes after them.
     /// Goes through the level after `done`: joins its groups and numbers those that form.
     fn grow_level(&mut self, scheme: &Scheme, done: u32)
         requires few { Few (network_of scheme.now) 1024 }

@@ -59,7 +59,7 @@ impl Nodes {
         ensures numbered { Numbered (network_of scheme.now) 0 0 self.new }
     {
         self.list.clear();
-        // Kept: a push into reserved room cannot fail, while `extend` may ask for memory.
+        // Kept: a push into reserved room cannot fail, while `extend` may ask for memory, and nothing is asked for after the making of the room.
         for station in 0..scheme.stations {
             self.list.push_reserved(Node {
                 level: 0,

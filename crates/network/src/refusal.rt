@@ -41,6 +41,7 @@ impl RowRefusal {
 }
 
 /// A refusal is said in plain words.
+// Kept: written by hand, since it states its bytes, which a derived error does not.
 impl fmt::Display for RowRefusal {
     ghost output = { λ refusal. Some (said refusal) };
 

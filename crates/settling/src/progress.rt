@@ -2,6 +2,6 @@
 #[derive(Clone, Copy, Debug, Default, PartialEq, Eq)]
 pub struct Progress {
     pub base: Option<u64>,
-    // Kept: beside the base and not with it in one Option: a counter is read as 0 before its node is expanded.
+    // Kept: beside the base and not with it in one Option, since `rise` would then have to ask that the base is there.
     pub count: u64,
 }

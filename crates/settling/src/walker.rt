@@ -11,13 +11,13 @@ use shelf::Shelf;
 /// What walks have in hand: the scheme and its map, and their trail, shelf and keeper, which have room for the map.
 #[derive(Drop)]
 pub struct Walker<'a, S: Shelf, K: Keeper> {
-    // Kept: `Charted` and `Walkable` are asked by the methods and no ghost fact: that takes a fact with one proof, and `near` and `seat` in them
-    // hold a route and a station; truncated it would prove nothing here, since the contracts (Belongs, Step, Run) are themselves data.
     pub scheme: &'a Scheme,
     pub map: &'a Map,
     pub trail: Trail,
     pub shelf: S,
     pub keeper: K,
+    // Kept: `Charted` and `Walkable` are asked by the methods and are no ghost facts: that takes a fact with one proof, and `near` of `Fits` and
+    // `seat` of `Runs` hold a route and a station; truncated it would prove nothing here, since the contracts (Belongs, Step, Run) are data.
     ghost settled: { (tree_of map.now).stations ≤ vec_len trail.settled },
     ghost nodes: { (tree_of map.now).nodes ≤ vec_len trail.nodes },
     ghost items: { (tree_of map.now).nodes ≤ (S.meaning shelf).items },

@@ -63,7 +63,7 @@ impl Shelf for Chains {
     }
 
     fn clear(&mut self) {
-        // Kept: item numbers, as `lift` wants them; resetting the ring by `fill` would make clear grow with the buckets too.
+        // Kept: item numbers, as `lift` wants them; giving every node a ring of its own again would make clear grow with the buckets too.
         for item in 0..self.items() {
             self.lift(item);
         }

@@ -47,7 +47,7 @@ impl<'a, T: Copy> Stack<'a, T> {
     }
 
     /// Pushes an element to the end. Where the slice is full it answers no, and nothing changes.
-    // Kept: a bool, as the stack's callers match it: a refused push changes nothing, and the element is `Copy`.
+    // Kept: a bool, as shelves and keepers answer: a refused push changes nothing, and the element is `Copy`, so none has to come back.
     pub fn push(&mut self, x: T) -> bool
         ensures pushed { result ≡ true → (self.old.len < length self.old.room.now)
             × Pushed self.old.room.now self.old.len x self.new.room.now self.new.len }
