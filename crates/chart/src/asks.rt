@@ -1,5 +1,5 @@
 ghost use Rattle.std.specs.Prelude.{◌≡◌, ◌<◌, true, false, [], IfOk};
-ghost use Rattle.network.specs.Schemes.{network_of};
+ghost use Rattle.network.specs.Schemes.{network_of, struck_of};
 ghost use Rattle.chart.specs.Changes.{one_station, Served};
 
 use super::chart::Chart;
@@ -28,6 +28,7 @@ impl Chart {
     /// Takes another scheme in place of its own; no map stands then.
     pub fn replace(&mut self, scheme: Scheme)
         ensures scheme { network_of self.new.scheme ≡ network_of scheme }
+        ensures struck { struck_of self.new.scheme ≡ struck_of scheme }
         ensures stands { self.new.stands ≡ false }
     {
         self.stands = false;
