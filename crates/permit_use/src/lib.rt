@@ -8,7 +8,7 @@ ghost use Rattle.book.specs.Matter.{matter, In, Struck};
 use book::book::Book;
 use book::refusal::PermitRefusal;
 
-// Kept: a bool in all three, which is the link's service mark as the contract says.
+// Kept: a bool in all three, which is the link's service mark as the contract says; ending at home answers that it could.
 /// Takes a link out of service and puts it back; false where it was not in service.
 pub fn out_and_back(book: &mut Book, link: u32) -> bool
     ensures was { result ≡ slice_index_or (matter book.old).network.service link false }
@@ -45,13 +45,15 @@ pub fn offer_elsewhere(home: &mut Book, other: &mut Book, link: u32) -> bool
     let Err(refused) = other.give_back(permit) else {
         return true;
     };
-    end_at_home(home, refused);
-    true
+    end_at_home(home, refused)
 }
 
 /// Gives the permit of a refusal back at home, or annuls it where that is refused too.
-fn end_at_home(home: &mut Book, refused: PermitRefusal) {
+fn end_at_home(home: &mut Book, refused: PermitRefusal) -> bool
+    ensures { result ≡ true }
+{
     if let Err(again) = home.give_back(refused.permit()) {
         home.annul(again.permit()).unwrap();
     }
+    true
 }
