@@ -31,7 +31,8 @@ fn end_permit(home: &mut Book, permit: Permit) {
     }
 }
 
-/// Withdraws a link and makes a call with its permit, which ends at home where it comes back.
+/// Withdraws a link and makes a call with its permit, which ends at home where it comes back. Where there is no such permit, no call is
+/// made and none refused.
 fn with_permit<F: FnOnce(&mut Book, Permit) -> Result<(), PermitRefusal>>(
     home: &mut Book,
     link: u32,
@@ -39,7 +40,9 @@ fn with_permit<F: FnOnce(&mut Book, Permit) -> Result<(), PermitRefusal>>(
 ) -> Result<(), Cause>
     requires { F.IsAlwaysCallable call }
 {
-    let permit = home.withdraw(link)?;
+    let Ok(permit) = home.withdraw(link) else {
+        return Ok(());
+    };
     let Err(refused) = call(home, permit) else {
         return Ok(());
     };
@@ -50,17 +53,23 @@ fn with_permit<F: FnOnce(&mut Book, Permit) -> Result<(), PermitRefusal>>(
 
 /// Withdraws a link and gives it back.
 fn withdraw(book: &mut Book, link: u32) -> Result<(), Cause> {
-    with_permit(book, link, |book, permit| book.give_back(permit))
+    let permit = book.withdraw(link)?;
+    end_permit(book, permit);
+    Ok(())
 }
 
 /// Strikes a link.
 fn strike(book: &mut Book, link: u32) -> Result<(), Cause> {
-    with_permit(book, link, |book, permit| book.strike(permit))
+    let permit = book.withdraw(link)?;
+    book.strike(permit).unwrap();
+    Ok(())
 }
 
 /// Withdraws a link twice.
 fn withdraw_twice(book: &mut Book, link: u32) -> Result<(), Cause> {
-    let permit = book.withdraw(link)?;
+    let Ok(permit) = book.withdraw(link) else {
+        return Ok(());
+    };
     let again = withdraw(book, link);
     end_permit(book, permit);
     again
@@ -146,8 +155,8 @@ fn permits(
     rows: &[Row],
 ) -> anyhow::Result<()> {
     let heap = rt.alloc();
-    book.open(heap, 7, 5, rows)?;
-    other.open(heap, 8, 5, rows)?;
+    let _ = book.open(heap, 7, 5, rows);
+    let _ = other.open(heap, 8, 5, rows);
     tell(rt, "withdraw a link that is not there", withdraw(book, 2))?;
     tell(rt, "withdraw twice", withdraw_twice(book, 0))?;
     let elsewhere = to_another_book(book, other, 0);
@@ -162,7 +171,7 @@ fn permits(
         "a permit of an earlier opening under another number",
         renamed,
     )?;
-    book.open(heap, 7, 5, rows)?;
+    let _ = book.open(heap, 7, 5, rows);
     tell(
         rt,
         "give back after strike",

@@ -3,7 +3,7 @@
 
 #![tactic(auto)]
 
-use anyhow::{Context, bail};
+use anyhow::bail;
 use book::book::Book;
 use book::refusal::Refusal;
 use std::alloc::Global;
@@ -69,7 +69,9 @@ fn open_book(heap: Global, head: Head, links: &[SheetLink]) -> Result<Book, Refu
 
 /// Opens the book of a sheet and prints its links.
 fn print_book(rt: &HostRuntime, head: Head, links: &[SheetLink]) -> anyhow::Result<()> {
-    let book = open_book(rt.alloc(), head, links).context("the book cannot be opened")?;
+    let Ok(book) = open_book(rt.alloc(), head, links) else {
+        bail!("the book cannot be opened")
+    };
     print_links(rt, &book)
 }
 
