@@ -20,6 +20,10 @@ all_nowhere items buckets = record { items = items; buckets = buckets; at = repl
 abbrev pub cleared : Holds → Holds
 cleared h = all_nowhere h.items h.buckets
 
+-- the count begins again, and each item stays where it stands
+abbrev pub uncounted : Holds → Holds
+uncounted h = record { items = h.items; buckets = h.buckets; at = h.at; puts = 0 }
+
 -- the item i is sent nowhere: where it does not exist or is nowhere already, nothing changes
 abbrev pub lifted : Holds → ℕ → Holds
 lifted h i = record { items = h.items; buckets = h.buckets; at = slice_set h.at i None; puts = h.puts }

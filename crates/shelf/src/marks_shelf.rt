@@ -1,5 +1,5 @@
 ghost use Rattle.std.specs.Prelude.{◌≡◌, IfOk};
-ghost use Rattle.shelf.specs.Holds.{all_nowhere};
+ghost use Rattle.shelf.specs.Holds.{all_nowhere, uncounted};
 ghost use Rattle.shelf.specs.Means.{marks_hold};
 ghost use Rattle.std.proofs.Common.{sym};
 
@@ -18,6 +18,13 @@ impl Marks {
             buckets,
             puts: 0,
         })
+    }
+
+    /// Begins the count of puts again at 0, and leaves each item where it stands.
+    pub fn forget_puts(&mut self)
+        ensures { marks_hold self.new ≡ uncounted (marks_hold self.old) }
+    {
+        self.puts = 0;
     }
 }
 
@@ -48,7 +55,7 @@ impl Shelf for Marks {
 
     fn clear(&mut self) {
         self.marks.fill(None);
-        self.puts = 0;
+        self.forget_puts();
     }
 
     fn put(&mut self, item: u32, bucket: u32) -> bool {

@@ -5,7 +5,7 @@ use Rattle.std.proofs.lemmas.List.FromFn.{length-map-range_with_len, get_or-map-
 use mathlib.Core.Logic.{∥∥₁_elim, ∥∥₁_map}
 use Rattle.std.proofs.lemmas.List.{map-set, get_or-map, length-map}
 use Rattle.std.proofs.Math.Seq.{map-set_same}
-use Rattle.shelf.specs.Holds.{Bare, all_nowhere, bucket_at, cleared, lifted, placed}
+use Rattle.shelf.specs.Holds.{Holds, Bare, all_nowhere, bucket_at, cleared, lifted, placed, uncounted}
 use Rattle.shelf.specs.Means.{marks_hold}
 use Rattle.shelf.specs.declared.marks.Marks.{Marks}
 use Rattle.shelf_chains.specs.Means.{chains_hold}
@@ -117,11 +117,18 @@ module _ (s : Chains) where
         rw (me, nexts_joined (set s.ring.items i new) j i e.next i x y xe ye, prevs_joined (set s.ring.items i new) j i e.next i x y xe ye, map-set (λ (k : Neighbours). k.next) s.ring.items i new, map-set (λ (k : Neighbours). k.prev) s.ring.items i new, sym head_read, at)
         (ringed_link sizes r i b lt exists none))
 
-  -- where each item has left its ring, the rings are those of a shelf that was cleared
-  pub emptied : (m : Marks) → marks_hold m ≡ cleared (chains_hold s) → ((k : ℕ) → k < (chains_hold s).items → bucket_at (chains_hold s) k ≡ None)
+  -- where each item has left its ring, a new count leaves a shelf that was cleared
+  pub swept : ((k : ℕ) → k < (chains_hold s).items → bucket_at (chains_hold s) k ≡ None) → uncounted (chains_hold s) ≡ cleared (chains_hold s)
+  swept none =
+      let h = chains_hold s in
+      let fresh : List (Option ℕ) → Holds = λ at. record { items = h.items; buckets = h.buckets; at = at; puts = 0 } in
+      ap fresh (all_none h.at h.items sizes.sized none)
+
+  -- and the rings are those of such a shelf
+  pub emptied : (m : Marks) → marks_hold m ≡ uncounted (chains_hold s) → ((k : ℕ) → k < (chains_hold s).items → bucket_at (chains_hold s) k ≡ None)
       → ∥ Ringed (marks_hold m) (nexts s.ring.items) (prevs s.ring.items) ∥₁
   emptied m me none = ∥∥₁_map s.ringed (λ r.
-      rw (me, sym (all_none (chains_hold s).at (chains_hold s).items sizes.sized none))
+      rw me
       (record { ahead = r.ahead; behind = r.behind; ranked = r.ranked }))
 
 -- nodes that each are alone, with every item nowhere

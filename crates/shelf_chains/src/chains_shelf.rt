@@ -14,9 +14,12 @@ use std::alloc::{AllocError, Global};
 fn alone(heap: Global, nodes: usize) -> Result<Vec<Neighbours>, AllocError>
     ensures { IfOk result (λ v. v.items ≡ map lone (range_with_len 0 nodes)) }
 {
-    (0..nodes)
-        .map(|k| Neighbours { next: k, prev: k })
-        .collect(heap)
+    let mut ring = Vec::with_capacity(heap, nodes)?;
+    // Kept: room for all at once and a loop, since `collect` would go on in smaller steps where that much is refused, and write what it has first.
+    for k in 0..nodes {
+        ring.push_reserved(Neighbours { next: k, prev: k });
+    }
+    Ok(ring)
 }
 
 impl Chains {
@@ -63,11 +66,12 @@ impl Shelf for Chains {
     }
 
     fn clear(&mut self) {
-        // Kept: item numbers, as `lift` wants them; giving every node a ring of its own again would make clear grow with the buckets too.
+        // Kept: item numbers, as `lift` wants them; giving every node a ring of its own again would make clear grow with the buckets too. The count
+        // alone is left to the marks, since no item stands by then.
         for item in 0..self.items() {
             self.lift(item);
         }
-        self.marks.clear();
+        self.marks.forget_puts();
     }
 
     fn put(&mut self, item: u32, bucket: u32) -> bool {
