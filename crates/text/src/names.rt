@@ -54,14 +54,16 @@ impl Content<'_> {
     {
         self.check_count(table.width())?;
         let mut places = [NOWHERE; 4];
-        // Kept: words by number, since the library's `split` gives the words without their columns.
+        let mut start = 0;
+        // Kept: words by number, each from where the last one ended, since the library's `split` gives the words without their columns.
         for j in 0..table.width() {
-            let word = self.word(j);
+            let word = self.word_from(start);
             // Kept: a match, since with `map_err` and a closure the goals of what is returned do not close.
             match new_name(word.bytes, table, places) {
                 Ok(i) => places[i] = j,
                 Err(cause) => return Err(self.fault(cause, word.column)),
             }
+            start += word.bytes.len() + 1;
         }
         Ok(places)
     }

@@ -32,7 +32,12 @@ fn first_stop(bytes: &[u8], stop: Stop) -> Option<usize>
 pub(crate) fn count_stops(bytes: &[u8], stop: Stop) -> usize
     ensures { result ≡ count_by (λ b. b == stop_byte stop) bytes.now }
 {
-    bytes.iter().filter(|byte| is_stop(**byte, stop)).count()
+    let mut count = 0;
+    // Kept: a sum by hand, which the compiler turns into vector code; with `filter` and `count` a line of many words took a third longer to read.
+    for byte in bytes {
+        count += usize::from(is_stop(*byte, stop));
+    }
+    count
 }
 
 /// The place of the first stop from `start` on, or the end of the bytes.

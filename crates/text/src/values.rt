@@ -58,13 +58,15 @@ impl Content<'_> {
         self.check_count(table.width())?;
         let state_at = table.state_at(places);
         let mut values = Values::default();
-        // Kept: words by number, since the library's `split` gives the words without their columns.
+        let mut start = 0;
+        // Kept: words by number, each from where the last one ended, since the library's `split` gives the words without their columns.
         for j in 0..table.width() {
-            let word = self.word(j);
+            let word = self.word_from(start);
             // Kept: a test, since with `map_err` and a closure the goals of what is returned do not close.
             if let Err(fault) = read_word(word.bytes, j, state_at, &mut values) {
                 return Err(self.fault(fault.into(), word.column));
             }
+            start += word.bytes.len() + 1;
         }
         Ok(values)
     }

@@ -1,10 +1,7 @@
-use Rattle.std.proofs.Common.{sym}
-use Rattle.text.proofs.Pieces.{word_is}
+use Rattle.std.proofs.Common.{sym, ◌∙◌}
 use Rattle.text.proofs.content.Content.word.Goals as goal
 
 pub returns : goal.returns
 returns c =
-    record {
-      bytes = sym (word_is c.piece_start-start.ensures c.piece_end-end.ensures);
-      column = sym c.piece_start-start.ensures.column;
-    }
+    let at = c.piece_start-start.ensures in
+    record { bytes = c.word_from.ensures.bytes c.args.j at; column = c.word_from.ensures.column ∙ sym at.column }
