@@ -20,7 +20,7 @@ proper s k h =
     let below : k < vec_len s.links = omega (arith, h, length-map (vec_items s.links) row, s.links.ok.0) in
     subst (λ (r : Row). Sound s.stations r) (sym (get_or-map row (vec_items s.links) k no_entry)) (s.sound k below)
 
-never_refused : (n : ℕ) (r : Row) (e : RowRefusal) → Sound n r → Why n r e → ⊥
+pub never_refused : (n : ℕ) (r : Row) (e : RowRefusal) → Sound n r → Why n r e → ⊥
 never_refused n r (EndOutside back) s w = w s.0
 never_refused n r (EqualEnds back) s w = s.1 w.1
 never_refused n r (NoDelay back) s w = omega (arith, s.2, w.2)

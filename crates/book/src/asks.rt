@@ -43,7 +43,7 @@ impl Book {
         ensures { MatchOption result (links (matter self.now) ≤ number) (λ l. (number < links (matter self.now)) × (l.row ≡ row_of (matter self.now).network number)) }
     {
         let entry = self.scheme.entry(number as usize)?;
-        Link::of_row(entry.row, self.scheme.stations).ok()
+        Some(Link::of_row(entry.row, self.scheme.stations).unwrap())
     }
 
     /// Whether the link of that number is in service; one that the book has not is not, and one that is struck is not.

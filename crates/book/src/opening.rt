@@ -27,12 +27,15 @@ fn check_rows(stations: u32, rows: &[Row]) -> Result<(), RowRefusal>
 fn links_of(heap: Global, rows: &[Row]) -> Result<Vec<Entry>, AllocError>
     ensures { IfOk result (λ links. links.items ≡ map fresh rows.now) }
 {
-    rows.iter()
-        .map(|row| Entry {
-            row: *row,
+    let mut links = Vec::with_capacity(heap, rows.len())?;
+    // Kept: room for all at once and a loop, since `collect` moves each link through memory once more, at two and a half times the old cost of an opening.
+    for &row in rows {
+        links.push_reserved(Entry {
+            row,
             standing: Standing::In,
-        })
-        .collect(heap)
+        });
+    }
+    Ok(links)
 }
 
 impl Book {
